@@ -1,0 +1,103 @@
+-- A kind byte by ranges: which it is, and how many children it may have. Assumes nothing.
+use mathlib.Core.Path.{_≡_, refl, sym, _∙_}
+use mathlib.Core.Bool.{Bool, true, false, _&&_, cond}
+use mathlib.Core.List.{List}
+use mathlib.Core.Logic.{_⊎_, inl, inr, ⊎-elim}
+use Prim.Native.Nat.{ℕ, zero, suc, _≤_, _<_}
+use lib.Dec.{eqb, leb}
+use borrow.Author.Tests.{ne-eqb, eqb-true, eqb-false}
+use native.Mathlib.Omega.{arith}
+use Rattle.lists.proofs.Logic.{cases, decided, no-bool}
+use Rattle.plan.specs.Plan.{Kind, task, serial, and, or, xor, contingency, conditional, kindNumber, isKind, kindOf, kindByte, kind, parent, above, aboveByte}
+use Rattle.plan.specs.Check.{fits}
+
+pub kind-task : (p : List ℕ) (v : ℕ) → kindByte p v ≡ 1 → kind p v ≡ task
+unfolding kind kindOf
+kind-task p v e = rw e
+
+pub fits-block : (k n : ℕ) → 2 ≤ k → k ≤ 6 → fits (kindOf k) n ≡ (leb 1 n && leb n 32)
+unfolding fits kindOf
+fits-block zero n l m = absurd (omega arith)
+fits-block (suc zero) n l m = absurd (omega arith)
+fits-block (suc (suc zero)) n l m = refl
+fits-block (suc (suc (suc zero))) n l m = refl
+fits-block (suc (suc (suc (suc zero)))) n l m = refl
+fits-block (suc (suc (suc (suc (suc zero))))) n l m = refl
+fits-block (suc (suc (suc (suc (suc (suc zero)))))) n l m = refl
+fits-block (suc (suc (suc (suc (suc (suc (suc k))))))) n l m = absurd (omega arith)
+
+pub fits-low : (k n : ℕ) → k < 2 → fits (kindOf k) n ≡ eqb n 0
+unfolding fits kindOf
+fits-low zero n l = refl
+fits-low (suc zero) n l = refl
+fits-low (suc (suc k)) n l = absurd (omega arith)
+
+pub fits-high : (k n : ℕ) → 7 < k → fits (kindOf k) n ≡ eqb n 0
+unfolding fits kindOf
+fits-high k n l =
+    simp (
+      ne-eqb k 2 (λ e. omega arith),
+      ne-eqb k 3 (λ e. omega arith),
+      ne-eqb k 4 (λ e. omega arith),
+      ne-eqb k 5 (λ e. omega arith),
+      ne-eqb k 6 (λ e. omega arith),
+      ne-eqb k 7 (λ e. omega arith),
+    )
+
+pub fits-two : (k n : ℕ) → k ≡ 7 → fits (kindOf k) n ≡ eqb n 2
+unfolding fits kindOf
+fits-two k n e = rw e
+
+-- the kind above, read off its byte
+pub above-byte : (p : List ℕ) (v : ℕ) → above p v ≡ kindOf (aboveByte p v)
+unfolding above aboveByte kind kindOf
+above-byte p v = go (eqb v 0)
+  where
+    go : (b : Bool) → cond b task (kindOf (kindByte p (parent p v))) ≡ kindOf (cond b 1 (kindByte p (parent p v)))
+    go true = refl
+    go false = refl
+
+-- a byte's kind has that byte, or is a task
+abbrev Back : ℕ → Kind → Type 0
+Back k r = (kindNumber r ≡ k) ⊎ (kindNumber r ≡ 1)
+
+back-or : (k : ℕ) (j r : Kind) → Back k r → Back k (cond (eqb k (kindNumber j)) j r)
+back-or k j r h = go (eqb k (kindNumber j)) refl
+  where
+    go : (b : Bool) → eqb k (kindNumber j) ≡ b → Back k (cond b j r)
+    go true e = inl (sym (eqb-true k (kindNumber j) e))
+    go false e = h
+
+back : (k : ℕ) → Back k (kindOf k)
+unfolding kindOf kindNumber
+back k =
+    back-or k serial _ (back-or k and _ (back-or k or _ (back-or k xor _ (back-or k contingency _ (back-or k conditional task (inr refl))))))
+
+kind-number : (j : Kind) → kindOf (kindNumber j) ≡ j
+unfolding kindOf kindNumber
+kind-number task = refl
+kind-number serial = refl
+kind-number and = refl
+kind-number or = refl
+kind-number xor = refl
+kind-number contingency = refl
+kind-number conditional = refl
+
+kind-same : (j : Kind) → isKind j j ≡ true
+unfolding isKind kindNumber
+kind-same task = refl
+kind-same serial = refl
+kind-same and = refl
+kind-same or = refl
+kind-same xor = refl
+kind-same contingency = refl
+kind-same conditional = refl
+
+-- the byte's test says what the kind's does, for every kind but a task
+pub is-kind : (j : Kind) (k : ℕ) → 1 < kindNumber j → isKind j (kindOf k) ≡ eqb k (kindNumber j)
+unfolding isKind
+is-kind j k l = cases (decided (eqb k (kindNumber j)))
+    (λ e. rw (e, eqb-true k (kindNumber j) e, kind-number j) (kind-same j))
+    (λ e. rw e (no-bool (isKind j (kindOf k)) (λ h.
+    let q = eqb-true (kindNumber j) (kindNumber (kindOf k)) h in
+    ⊎-elim (λ b. eqb-false k (kindNumber j) e (sym (q ∙ b))) (λ b. omega arith) (back k))))

@@ -1,0 +1,261 @@
+// Plan bytes: nodes, kinds, parents, child counts, depths, and the check of a plan. What the words mean is specs/Plan.antt, what the
+// check answers and accepts specs/Check.antt. No public function has a `requires`; `check` is linear in the nodes.
+ghost use mathlib.Core.Path.{_≡_};
+ghost use mathlib.Core.Bool.{true};
+ghost use Prim.Native.Nat.{_<_};
+ghost use lib.ListN.{length, getD, replicate};
+ghost use Rattle.lists.specs.Seq.{table};
+ghost use Rattle.plan.specs.Plan.{kindOf, size, kindByte, parent, aboveByte, childCount, depth};
+ghost use Rattle.plan.specs.Check.{lengthOk, kindOk, parentOk, underBlock, fits, countOk, depthOk, atAll, checkNumber, Ordered};
+
+// A byte as an index.
+pub fn wide(x: u8) -> usize
+    ensures { λ r. ⌜ r ≡ x ⌝ }
+{
+    x as usize
+}
+
+// The byte at i, or 0 past the end.
+pub fn byte_at(s: &[u8], i: usize) -> u8
+    ensures { λ r. ⌜ r ≡ getD (now (s .entry)) i 0 ⌝ }
+{
+    if i < s.len() { s[i] } else { 0 }
+}
+
+pub fn node_count(plan: &[u8]) -> usize
+    ensures { λ r. ⌜ r ≡ size (now (plan .entry)) ⌝ }
+{
+    plan.len() / 2
+}
+
+// The kind byte of v.
+pub fn kind(plan: &[u8], v: u8) -> u8
+    ensures { λ r. ⌜ r ≡ kindByte (now (plan .entry)) v ⌝ }
+{
+    byte_at(plan, 2 * wide(v))
+}
+
+// The parent of v.
+pub fn parent(plan: &[u8], v: u8) -> u8
+    ensures { λ r. ⌜ r ≡ parent (now (plan .entry)) v ⌝ }
+{
+    byte_at(plan, 2 * wide(v) + 1)
+}
+
+// The kind byte of v's parent, and a task's for the root.
+pub fn above(plan: &[u8], v: u8) -> u8
+    ensures { λ r. ⌜ r ≡ aboveByte (now (plan .entry)) v ⌝ }
+{
+    if v == 0 { 1 } else { kind(plan, parent(plan, v)) }
+}
+
+fn kind_at(plan: &[u8], v: usize) -> u8
+    requires { ⌜ v < size (now plan) ⌝ }
+    ensures { λ r. ⌜ r ≡ kindByte (now (plan .entry)) v ⌝ }
+{
+    plan[2 * v]
+}
+
+fn parent_at(plan: &[u8], v: usize) -> usize
+    requires { ⌜ v < size (now plan) ⌝ }
+    ensures { λ r. ⌜ r ≡ parent (now (plan .entry)) v ⌝ }
+{
+    wide(plan[2 * v + 1])
+}
+
+fn length_ok(plan: &[u8]) -> bool
+    ensures { λ r. ⌜ r ≡ lengthOk (now (plan .entry)) ⌝ }
+{
+    let n = plan.len();
+    if n % 2 != 0 {
+        return false;
+    }
+    0 < n && n <= 320
+}
+
+fn kind_ok(plan: &[u8], v: usize) -> bool
+    requires { ⌜ v < size (now plan) ⌝ }
+    ensures { λ r. ⌜ r ≡ kindOk (now (plan .entry)) v ⌝ }
+{
+    let k = kind_at(plan, v);
+    1 <= k && k <= 7
+}
+
+fn kinds_ok(plan: &[u8]) -> bool
+    ensures { λ r. ⌜ r ≡ atAll kindOk (now (plan .entry)) ⌝ }
+{
+    let n = node_count(plan);
+    let mut v = 0;
+    while v < n {
+        if !kind_ok(plan, v) {
+            return false;
+        }
+        v += 1;
+    }
+    true
+}
+
+fn parent_ok(plan: &[u8], v: usize) -> bool
+    requires { ⌜ v < size (now plan) ⌝ }
+    ensures { λ r. ⌜ r ≡ parentOk (now (plan .entry)) v ⌝ }
+{
+    let u = parent_at(plan, v);
+    if v == 0 {
+        return u == 255;
+    }
+    u < v
+}
+
+fn parents_ok(plan: &[u8]) -> bool
+    ensures { λ r. ⌜ r ≡ atAll parentOk (now (plan .entry)) ⌝ }
+{
+    let n = node_count(plan);
+    let mut v = 0;
+    while v < n {
+        if !parent_ok(plan, v) {
+            return false;
+        }
+        v += 1;
+    }
+    true
+}
+
+fn under_block(plan: &[u8], v: usize) -> bool
+    requires { ⌜ Ordered (now plan) × (v < size (now plan)) ⌝ }
+    ensures { λ r. ⌜ r ≡ underBlock (now (plan .entry)) v ⌝ }
+{
+    if v == 0 {
+        return true;
+    }
+    let u = parent_at(plan, v);
+    kind_at(plan, u) != 1
+}
+
+fn blocks_ok(plan: &[u8]) -> bool
+    requires { ⌜ Ordered (now plan) ⌝ }
+    ensures { λ r. ⌜ r ≡ atAll underBlock (now (plan .entry)) ⌝ }
+{
+    let n = node_count(plan);
+    let mut v = 0;
+    while v < n {
+        if !under_block(plan, v) {
+            return false;
+        }
+        v += 1;
+    }
+    true
+}
+
+// Leaves each node's number of children in `out`, which is one zero a node.
+fn child_counts(plan: &[u8], out: &mut [u8])
+    requires { ⌜ Ordered (now plan) × (now out ≡ replicate (size (now plan)) 0) ⌝ }
+    ensures { λ _. ⌜ now (out .exit) ≡ table (childCount (now (plan .entry))) (size (now (plan .entry))) ⌝ }
+{
+    let n = node_count(plan);
+    let mut v = 1;
+    while v < n {
+        let u = parent_at(plan, v);
+        out[u] = out[u] + 1;
+        v += 1;
+    }
+}
+
+fn count_ok(k: u8, n: u8) -> bool
+    ensures { λ r. ⌜ r ≡ fits (kindOf k) n ⌝ }
+{
+    match k {
+        2..=6 => 1 <= n && n <= 32,
+        7 => n == 2,
+        _ => n == 0,
+    }
+}
+
+fn counts_match(plan: &[u8], counts: &[u8]) -> bool
+    requires { ⌜ now counts ≡ table (childCount (now plan)) (size (now plan)) ⌝ }
+    ensures { λ r. ⌜ r ≡ atAll countOk (now (plan .entry)) ⌝ }
+{
+    let n = node_count(plan);
+    let mut v = 0;
+    while v < n {
+        if !count_ok(kind_at(plan, v), counts[v]) {
+            return false;
+        }
+        v += 1;
+    }
+    true
+}
+
+fn counts_ok(plan: &[u8]) -> bool
+    requires { ⌜ Ordered (now plan) ⌝ }
+    ensures { λ r. ⌜ r ≡ atAll countOk (now (plan .entry)) ⌝ }
+{
+    let n = node_count(plan);
+    let mut counts = [0u8; 160];
+    child_counts(plan, &mut counts[..n]);
+    counts_match(plan, &counts[..n])
+}
+
+// Leaves each node's depth in `out`, which is one byte a node.
+fn depths(plan: &[u8], out: &mut [u8])
+    requires { ⌜ Ordered (now plan) × (length (now out) ≡ size (now plan)) ⌝ }
+    ensures { λ _. ⌜ now (out .exit) ≡ table (depth (now (plan .entry))) (size (now (plan .entry))) ⌝ }
+{
+    let n = node_count(plan);
+    out[0] = 1;
+    let mut v = 1;
+    while v < n {
+        let u = parent_at(plan, v);
+        out[v] = out[u] + 1;
+        v += 1;
+    }
+}
+
+fn depths_within(plan: &[u8], depths: &[u8]) -> bool
+    requires { ⌜ now depths ≡ table (depth (now plan)) (size (now plan)) ⌝ }
+    ensures { λ r. ⌜ r ≡ atAll depthOk (now (plan .entry)) ⌝ }
+{
+    let n = node_count(plan);
+    let mut v = 0;
+    while v < n {
+        if depths[v] > 32 {
+            return false;
+        }
+        v += 1;
+    }
+    true
+}
+
+fn depths_ok(plan: &[u8]) -> bool
+    requires { ⌜ Ordered (now plan) ⌝ }
+    ensures { λ r. ⌜ r ≡ atAll depthOk (now (plan .entry)) ⌝ }
+{
+    let n = node_count(plan);
+    let mut buf = [0u8; 160];
+    depths(plan, &mut buf[..n]);
+    depths_within(plan, &buf[..n])
+}
+
+// The number of the first test that the plan fails, and 0 where it passes all.
+pub fn check(plan: &[u8]) -> u8
+    ensures { λ r. ⌜ r ≡ checkNumber (now (plan .entry)) ⌝ }
+{
+    if !length_ok(plan) {
+        return 1;
+    }
+    if !kinds_ok(plan) {
+        return 2;
+    }
+    if !parents_ok(plan) {
+        return 3;
+    }
+    if !blocks_ok(plan) {
+        return 4;
+    }
+    if !counts_ok(plan) {
+        return 5;
+    }
+    if !depths_ok(plan) {
+        return 6;
+    }
+    0
+}
