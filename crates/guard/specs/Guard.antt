@@ -1,0 +1,105 @@
+-- The guard of each event, when it holds, and what bars an event (rules C and D). Definitions only.
+use mathlib.Core.Bool.{Bool, cond}
+use mathlib.Core.List.{List, [], _∷_, _++_, map}
+use Prim.Native.Nat.{ℕ}
+use lib.Dec.{eqb}
+use Rattle.lists.specs.Seq.{all, any, lastOr, headOr}
+use Rattle.plan.specs.Plan.{Kind, task, serial, and, or, xor, contingency, conditional, kind, parent, children, others, above, inXor}
+use Rattle.event.specs.Event.{Code, start, offer, commit, abort, answered-yes, answered-no, pick, down, Event, at}
+
+-- C1: a clause is a list of events, a guard a list of clauses
+abbrev pub Guard : Type 0
+Guard = List (List Event)
+
+-- the three shapes: one event; [codes] for each child; [code of any child]
+abbrev pub one : Code → ℕ → Guard
+one c v = (at c v ∷ []) ∷ []
+
+abbrev pub each : List Code → List ℕ → Guard
+each ks cs = map (λ c. map (λ k. at k c) ks) cs
+
+abbrev pub anyOf : Code → List ℕ → Guard
+anyOf k cs = map (at k) cs ∷ []
+
+-- the one before v in a rising list; d where v is the first
+unfoldable pub beforeIn : ℕ → List ℕ → ℕ → ℕ
+beforeIn d [] v = d
+beforeIn d (c ∷ cs) v = cond (eqb c v) d (beforeIn c cs v)
+
+unfoldable pub isFirst : List ℕ → ℕ → Bool
+isFirst cs v = eqb (headOr v cs) v
+
+-- C2: start of v. u is the parent, of the kind given, and cs its children; a task is nobody's parent and stands for the root's
+unfoldable pub startBy : Kind → ℕ → List ℕ → ℕ → Guard
+startBy task u cs v = []
+startBy serial u cs v = cond (isFirst cs v) (one start u) (one commit (beforeIn v cs v))
+startBy and u cs v = one start u
+startBy or u cs v = one start u
+startBy xor u cs v = one start u
+startBy contingency u cs v = cond (isFirst cs v) (one start u) (one abort (beforeIn v cs v))
+startBy conditional u cs v = cond (isFirst cs v) (one answered-yes u) (one answered-no u)
+
+-- C3: finishing, v of the kind given with the children cs
+unfoldable pub finishBy : Kind → ℕ → List ℕ → Guard
+finishBy task v cs = one start v
+finishBy serial v cs = one commit (lastOr v cs)
+finishBy and v cs = each (commit ∷ []) cs
+finishBy or v cs = each (commit ∷ abort ∷ []) cs ++ anyOf commit cs
+finishBy xor v cs = each (commit ∷ abort ∷ down ∷ []) cs ++ anyOf commit cs
+finishBy contingency v cs = anyOf commit cs
+finishBy conditional v cs = anyOf commit cs
+
+-- C4: abort
+unfoldable pub abortBy : Kind → ℕ → List ℕ → Guard
+abortBy task v cs = one start v
+abortBy serial v cs = anyOf abort cs
+abortBy and v cs = each (commit ∷ abort ∷ []) cs ++ anyOf abort cs
+abortBy or v cs = each (abort ∷ []) cs
+abortBy xor v cs = each (abort ∷ []) cs
+abortBy contingency v cs = one abort (lastOr v cs)
+abortBy conditional v cs = anyOf abort cs
+
+unfoldable pub finishing : List ℕ → ℕ → Guard
+finishing p v = finishBy (kind p v) v (children p v)
+
+unfoldable pub aborting : List ℕ → ℕ → Guard
+aborting p v = abortBy (kind p v) v (children p v)
+
+-- how a block ends: it fails or it finishes
+unfoldable pub endGuard : Bool → List ℕ → ℕ → Guard
+endGuard fails p v = cond fails (aborting p v) (finishing p v)
+
+-- C5 to C7: a finish is offered by an xor's child and committed by any other node; an xor's child commits once it is picked
+unfoldable pub guardBy : List ℕ → Code → ℕ → Guard
+guardBy p start v = startBy (above p v) (parent p v) (children p (parent p v)) v
+guardBy p offer v = finishing p v
+guardBy p commit v = cond (inXor p v) (one pick v) (finishing p v)
+guardBy p abort v = aborting p v
+guardBy p answered-yes v = one start v
+guardBy p answered-no v = one start v
+guardBy p pick v = one offer v
+guardBy p down v = one offer v ++ anyOf pick (others p v)
+
+unfoldable pub guard : List ℕ → Event → Guard
+guard p e = guardBy p (e .code) (e .node)
+
+-- C1: each clause has an event that is heard; an empty clause never holds, an empty list always does
+unfoldable pub holds : (Event → Bool) → Guard → Bool
+holds heard g = all (any heard) g
+
+-- D: the events that bar an event. Each happens at the event's own site, and every event is among its own
+unfoldable pub barsBy : List ℕ → Code → ℕ → List Event
+barsBy p start v = at start v ∷ []
+barsBy p offer v = at offer v ∷ at abort v ∷ []
+barsBy p commit v = at commit v ∷ at abort v ∷ []
+barsBy p abort v = at abort v ∷ at commit v ∷ at offer v ∷ []
+barsBy p answered-yes v = at answered-yes v ∷ at answered-no v ∷ []
+barsBy p answered-no v = at answered-yes v ∷ at answered-no v ∷ []
+barsBy p pick v = map (at pick) (children p (parent p v))
+barsBy p down v = at down v ∷ []
+
+unfoldable pub bars : List ℕ → Event → List Event
+bars p e = barsBy p (e .code) (e .node)
+
+unfoldable pub barred : List ℕ → (Event → Bool) → Event → Bool
+barred p heard e = any heard (bars p e)

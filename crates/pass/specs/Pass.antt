@@ -1,0 +1,162 @@
+-- The single pass: a node is settled by settling the children that it reaches, in rising number.
+-- Settling a node writes the marks of the nodes below it; the node's own mark is written by its parent, the root's by `pass`.
+use mathlib.Core.Bool.{Bool, true, false, cond, _&&_, _||_, not}
+use mathlib.Core.List.{List, [], _∷_}
+use Prim.Native.Nat.{ℕ, zero, suc}
+use lib.Dec.{eqb}
+use lib.ListN.{getD, set, replicate}
+use Rattle.plan.specs.Plan.{Kind, task, serial, and, or, xor, contingency, conditional, kind, size, children, isKind}
+
+-- how a node ends; a fault's number is 13 or 14
+pub data Outcome : Type 0 where
+  works breaks : Outcome
+  fault : ℕ → Outcome
+
+pub record Settled : Type 0 where
+  pub outcome : Outcome
+  pub marks : List ℕ
+
+-- what a block has seen of its children: how many there were, whether one worked, one broke, one that works stands in the answer's place;
+-- and the first fault's number, or 0
+pub record Tally : Type 0 where
+  pub places : ℕ
+  pub worked : Bool
+  pub broke : Bool
+  pub chosen : Bool
+  pub wrong : ℕ
+
+pub record Walked : Type 0 where
+  pub tally : Tally
+  pub marks : List ℕ
+
+-- the block with answer a reaches its next child
+unfoldable pub goesBy : Kind → ℕ → Tally → Bool
+goesBy task a t = false
+goesBy serial a t = not (t .broke)
+goesBy and a t = true
+goesBy or a t = true
+goesBy xor a t = true
+goesBy contingency a t = not (t .worked)
+goesBy conditional a t = cond (eqb (t .places) 0) (eqb a 1) (eqb a 2)
+
+unfoldable pub goes : Kind → ℕ → Tally → Bool
+goes k a t = eqb (t .wrong) 0 && goesBy k a t
+
+-- the mark of a child that works, in place n
+unfoldable pub goodMark : Kind → ℕ → ℕ → ℕ
+goodMark k a n = cond (isKind xor k && not (eqb n a)) 5 3
+
+-- a child was not reached
+unfoldable pub skip : Tally → Tally
+skip t = record { places = suc (t .places); worked = t .worked; broke = t .broke; chosen = t .chosen; wrong = t .wrong }
+
+-- a child ended so
+unfoldable pub note : ℕ → Tally → Outcome → Tally
+note a t works = record
+    { places = suc (t .places); worked = true; broke = t .broke; chosen = t .chosen || eqb (suc (t .places)) a; wrong = t .wrong }
+note a t breaks = record { places = suc (t .places); worked = t .worked; broke = true; chosen = t .chosen; wrong = t .wrong }
+note a t (fault n) = record { places = suc (t .places); worked = t .worked; broke = t .broke; chosen = t .chosen; wrong = n }
+
+-- and gets this mark
+unfoldable pub childMark : Kind → ℕ → Tally → Outcome → ℕ
+childMark k a t works = goodMark k a (suc (t .places))
+childMark k a t breaks = 4
+childMark k a t (fault n) = 0
+
+unfoldable pub noted : Kind → ℕ → Walked → ℕ → Settled → Walked
+noted k a w c r = record { tally = note a (w .tally) (r .outcome); marks = set (r .marks) c (childMark k a (w .tally) (r .outcome)) }
+
+unfoldable pub meetBy : Bool → (ℕ → List ℕ → Settled) → Kind → ℕ → Walked → ℕ → Walked
+meetBy true f k a w c = noted k a w c (f c (w .marks))
+meetBy false f k a w c = record { tally = skip (w .tally); marks = w .marks }
+
+-- the block comes to child c; f settles a child
+unfoldable pub meet : (ℕ → List ℕ → Settled) → Kind → ℕ → Walked → ℕ → Walked
+meet f k a w c = meetBy (goes k a (w .tally)) f k a w c
+
+unfoldable pub walk : (ℕ → List ℕ → Settled) → Kind → ℕ → List ℕ → Walked → Walked
+walk f k a [] w = w
+walk f k a (c ∷ cs) w = walk f k a cs (meet f k a w c)
+
+unfoldable pub nothing : Tally
+nothing = record { places = 0; worked = false; broke = false; chosen = false; wrong = 0 }
+
+unfoldable pub unwalked : List ℕ → Walked
+unwalked m = record { tally = nothing; marks = m }
+
+unfoldable pub oneOrTwo : ℕ → Bool
+oneOrTwo a = eqb a 1 || eqb a 2
+
+-- the number of a node's own fault that is met before its children, or 0
+unfoldable pub badAnswer : Kind → ℕ → ℕ
+badAnswer task a = cond (oneOrTwo a) 0 13
+badAnswer serial a = 0
+badAnswer and a = 0
+badAnswer or a = 0
+badAnswer xor a = 0
+badAnswer contingency a = 0
+badAnswer conditional a = cond (oneOrTwo a) 0 13
+
+-- the same after its children: an xor's answer is the place of a child that works, and 0 if none does
+unfoldable pub badPick : Kind → ℕ → Tally → ℕ
+badPick task a t = 0
+badPick serial a t = 0
+badPick and a t = 0
+badPick or a t = 0
+badPick xor a t = cond (cond (t .worked) (t .chosen) (eqb a 0)) 0 14
+badPick contingency a t = 0
+badPick conditional a t = 0
+
+-- the node works, by its children
+unfoldable pub closes : Kind → ℕ → Tally → Bool
+closes task a t = eqb a 1
+closes serial a t = not (t .broke)
+closes and a t = not (t .broke)
+closes or a t = t .worked
+closes xor a t = t .worked
+closes contingency a t = t .worked
+closes conditional a t = t .worked
+
+-- the first of the faults, or the outcome
+unfoldable pub ending : ℕ → ℕ → Bool → Outcome
+ending w x b = cond (eqb w 0) (cond (eqb x 0) (cond b works breaks) (fault x)) (fault w)
+
+unfoldable pub endOf : Kind → ℕ → Tally → Outcome
+endOf k a t = ending (t .wrong) (badPick k a t) (closes k a t)
+
+unfoldable pub close : Kind → ℕ → Walked → Settled
+close k a w = record { outcome = endOf k a (w .tally); marks = w .marks }
+
+unfoldable pub settleIf : Bool → Kind → ℕ → (ℕ → List ℕ → Settled) → List ℕ → List ℕ → Settled
+settleIf true k a f cs m = close k a (walk f k a cs (unwalked m))
+settleIf false k a f cs m = record { outcome = fault (badAnswer k a); marks = m }
+
+-- a node of kind k with answer a and children cs; f settles a child
+unfoldable pub settleBy : Kind → ℕ → (ℕ → List ℕ → Settled) → List ℕ → List ℕ → Settled
+settleBy k a f cs m = settleIf (eqb (badAnswer k a) 0) k a f cs m
+
+-- the node v, by the answers a, with marks m before. A node's children have higher numbers: the fuel is at least the node count less v
+unfoldable pub settle : List ℕ → List ℕ → ℕ → ℕ → List ℕ → Settled
+settle p a zero v m = record { outcome = fault 0; marks = m }
+settle p a (suc fuel) v m = settleBy (kind p v) (getD a v 0) (λ c m′. settle p a fuel c m′) (children p v) m
+
+pub record Passed : Type 0 where
+  pub number : ℕ
+  pub marks : List ℕ
+
+unfoldable pub numberOf : Outcome → ℕ
+numberOf works = 0
+numberOf breaks = 0
+numberOf (fault n) = n
+
+unfoldable pub rootMark : Outcome → ℕ
+rootMark works = 3
+rootMark breaks = 4
+rootMark (fault n) = 0
+
+unfoldable pub passOf : Settled → Passed
+passOf r = record { number = numberOf (r .outcome); marks = set (r .marks) 0 (rootMark (r .outcome)) }
+
+-- the pass: its number, 0 if the answers are accepted, and the marks that it then writes
+unfoldable pub pass : List ℕ → List ℕ → Passed
+pass p a = passOf (settle p a (size p) 0 (replicate (size p) 0))
