@@ -1,0 +1,122 @@
+-- The simulation of a whole job (rules B4 and I): the state, one step, a list of steps, the marks. The paper calls it a rehearsal.
+-- Definitions only.
+use mathlib.Core.Bool.{Bool, true, cond, _&&_, not}
+use mathlib.Core.List.{List, [], _∷_, _++_}
+use Prim.Native.Nat.{ℕ, _*_}
+use lib.ListN.{length, take, drop, replicate}
+use lib.Dec.{eqb, ltb}
+use Rattle.lists.specs.Seq.{table}
+use Rattle.plan.specs.Plan.{size}
+use Rattle.event.specs.Event.{start, offer, commit, abort, down, Event, at, eventOf}
+use Rattle.event.specs.Site.{Layout, siteOf}
+use Rattle.event.specs.Valid.{invalid}
+use Rattle.central.specs.Mark.{Mark, idle, running, offered, committed, failed, turned-down, markNumber}
+use Rattle.site.specs.Row.{heard, hear}
+use Rattle.site.specs.Verdict.{verdictNumber}
+use Rattle.site.specs.Step.{Stepped, stepOf}
+
+-- B4: the state is the sites' rows one after another: row q, and the state with another row q
+unfoldable pub rowOf : List ℕ → List ℕ → ℕ → List ℕ
+rowOf p st q = take (size p) (drop (q * size p) st)
+
+unfoldable pub withRow : List ℕ → List ℕ → ℕ → List ℕ → List ℕ
+withRow p st q row = take (q * size p) st ++ (row ++ drop (size p) (drop (q * size p) st))
+
+-- I: a step is any numbers, an event that happens (code, node) or a message of it to a site (code, node, site)
+pub data Step : Type 0 where
+  event : ℕ → ℕ → Step
+  message : ℕ → ℕ → ℕ → Step
+
+-- J1: as three numbers, where site ff makes it an event
+unfoldable pub stepFrom : ℕ → ℕ → ℕ → Step
+stepFrom code node site = cond (eqb site 255) (event code node) (message code node site)
+
+-- what a step answers and leaves: its number, 0 passed; the event's site with 0, 10 and 11, else 0
+pub record Reply : Type 0 where
+  pub number : ℕ
+  pub site : ℕ
+  pub state : List ℕ
+
+abbrev pub reply : ℕ → ℕ → List ℕ → Reply
+reply n q st = record { number = n; site = q; state = st }
+
+-- H7: the state is rows times nodes bytes
+unfoldable pub stateFits : List ℕ → Layout → List ℕ → Bool
+stateFits p lay st = eqb (length st) (lay .rows * size p)
+
+-- I2: an event happens by the step of its site q on row q
+unfoldable pub eventBy : List ℕ → List ℕ → ℕ → Stepped → Reply
+eventBy p st q r = reply (verdictNumber (r .verdict)) q (withRow p st q (r .row))
+
+unfoldable pub happen : List ℕ → Layout → List ℕ → ℕ → ℕ → Reply
+happen p lay st code node =
+    cond (not (eqb (invalid p (stateFits p lay st) true code node) 0)) (reply (invalid p (stateFits p lay st) true code node) 0 st)
+    (eventBy p st (siteOf p lay (eventOf code node)) (stepOf p code node (rowOf p st (siteOf p lay (eventOf code node)))))
+
+-- H12, I2: a message of an event that its own site's row has, to site q
+unfoldable pub tell : List ℕ → Layout → List ℕ → ℕ → ℕ → ℕ → Reply
+tell p lay st code node q =
+    cond (not (eqb (invalid p (stateFits p lay st) (ltb q (lay .rows)) code node) 0))
+    (reply (invalid p (stateFits p lay st) (ltb q (lay .rows)) code node) 0 st)
+    (cond (not (heard (rowOf p st (siteOf p lay (eventOf code node))) (eventOf code node))) (reply 12 0 st)
+    (reply 0 0 (withRow p st q (hear (rowOf p st q) code node))))
+
+unfoldable pub simulate : List ℕ → Layout → List ℕ → Step → Reply
+simulate p lay st (event code node) = happen p lay st code node
+simulate p lay st (message code node q) = tell p lay st code node q
+
+-- LISTS OF STEPS, from a state st; `zeros` is where a job begins
+unfoldable pub replayFrom : List ℕ → Layout → List ℕ → List Step → List ℕ
+replayFrom p lay st [] = st
+replayFrom p lay st (t ∷ ts) = replayFrom p lay (simulate p lay st t .state) ts
+
+-- the number of each step
+unfoldable pub numbersFrom : List ℕ → Layout → List ℕ → List Step → List ℕ
+numbersFrom p lay st [] = []
+numbersFrom p lay st (t ∷ ts) = simulate p lay st t .number ∷ numbersFrom p lay (simulate p lay st t .state) ts
+
+-- I3: the event that passed in a step with this number
+unfoldable pub passedOf : Step → ℕ → List Event
+passedOf (event code node) n = cond (eqb n 0) (eventOf code node ∷ []) []
+passedOf (message code node q) n = []
+
+unfoldable pub passedFrom : List ℕ → Layout → List ℕ → List Step → List Event
+passedFrom p lay st [] = []
+passedFrom p lay st (t ∷ ts) = passedOf t (simulate p lay st t .number) ++ passedFrom p lay (simulate p lay st t .state) ts
+
+-- I3: the event that site q heard in it, one that passed there or of which a message to it passed
+unfoldable pub heardOf : List ℕ → Layout → ℕ → Step → ℕ → List Event
+heardOf p lay q (event code node) n = cond (eqb n 0 && eqb (siteOf p lay (eventOf code node)) q) (eventOf code node ∷ []) []
+heardOf p lay q (message code node r) n = cond (eqb n 0 && eqb r q) (eventOf code node ∷ []) []
+
+unfoldable pub heardFrom : List ℕ → Layout → ℕ → List ℕ → List Step → List Event
+heardFrom p lay q st [] = []
+heardFrom p lay q st (t ∷ ts) = heardOf p lay q t (simulate p lay st t .number) ++ heardFrom p lay q (simulate p lay st t .state) ts
+
+unfoldable pub zeros : List ℕ → Layout → List ℕ
+zeros p lay = replicate (lay .rows * size p) 0
+
+unfoldable pub replay : List ℕ → Layout → List Step → List ℕ
+replay p lay ts = replayFrom p lay (zeros p lay) ts
+
+unfoldable pub passed : List ℕ → Layout → List Step → List Event
+passed p lay ts = passedFrom p lay (zeros p lay) ts
+
+unfoldable pub heardAt : List ℕ → Layout → ℕ → List Step → List Event
+heardAt p lay q ts = heardFrom p lay q (zeros p lay) ts
+
+-- B6: a node's mark by what is heard, the first that fits
+unfoldable pub markBy : (Event → Bool) → ℕ → Mark
+markBy heard v =
+    cond (heard (at commit v)) committed
+    (cond (heard (at abort v)) failed
+    (cond (heard (at down v)) turned-down
+    (cond (heard (at offer v)) offered
+    (cond (heard (at start v)) running idle))))
+
+-- by its own site's row
+unfoldable pub markAt : List ℕ → Layout → List ℕ → ℕ → Mark
+markAt p lay st v = markBy (heard (rowOf p st (lay .home v))) v
+
+unfoldable pub endMarks : List ℕ → Layout → List ℕ → List ℕ
+endMarks p lay st = table (λ v. markNumber (markAt p lay st v)) (size p)
