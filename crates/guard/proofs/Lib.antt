@@ -1,1 +1,4 @@
--- Laws.
+-- Laws that the proofs here and in upper crates cite.
+pub mod Shapes
+pub mod Short
+pub mod WriteLaws
