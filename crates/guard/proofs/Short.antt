@@ -16,8 +16,8 @@ use Rattle.plan.proofs.AcceptedLaws.{child-between}
 use Rattle.event.specs.Event.{Code, start, offer, commit, abort, answered-yes, answered-no, pick, down, Event, codeNumber}
 use Rattle.guard.specs.Guard.{Guard, one, each, anyOf, isFirst, beforeIn, startBy, finishBy, abortBy, finishing, aborting, guardBy, guard}
 use Rattle.guard.specs.Bytes.{encode}
-use Rattle.guard.specs.Put.{eachBytes, anyBytes, eachShape, eachAnyShape}
-use Rattle.guard.proofs.Shapes.{encode-each, encode-each-any, each-short, any-length}
+use Rattle.guard.specs.Put.{eachBytes, eachAnyBytes}
+use Rattle.guard.proofs.Shapes.{encode-each, encode-each-any, each-short, each-any-short}
 
 -- a node that is not in the plan has no children
 pub few-children : (p : List ℕ) → Accepted p → (u : ℕ) → length (children p u) ≤ 32
@@ -28,23 +28,13 @@ few-children p ok u = cases (decided (ltb u (size p))) (λ e. ok .most u (ltb-tr
 record Short (g : Guard) : Type 0 where
   fits : length (encode g) ≤ 290
 
-each-fits : (ks : List Code) (xs : List ℕ) → length (map codeNumber ks) ≤ 3 → length xs ≤ 32 → Short (each ks xs)
-unfolding eachShape
-each-fits ks xs h few = record { fits = omega (arith, ap length (encode-each ks xs), each-short (map codeNumber ks) xs h) }
+each-fits : (ks : List Code) (cs : List ℕ) → length (map codeNumber ks) ≤ 3 → length cs ≤ 32 → Short (each ks cs)
+each-fits ks cs h few = record { fits = omega (arith, ap length (encode-each ks cs), each-short (map codeNumber ks) cs 0 h) }
 
-each-any-fits : (ks : List Code) (xs : List ℕ) (k : Code) (ys : List ℕ) → length (map codeNumber ks) ≤ 3 → length xs ≤ 32 → length ys ≤ 32 → Short (each ks xs ++ anyOf k ys)
-unfolding eachAnyShape
-each-any-fits ks xs k ys h few few′ =
-    record {
-      fits =
-          omega (
-            arith,
-            ap length (encode-each-any ks xs k ys),
-            each-short (map codeNumber ks) xs h,
-            any-length (codeNumber k) ys,
-            length-append (eachBytes (map codeNumber ks) xs) (anyBytes (codeNumber k) ys),
-          );
-    }
+each-any-fits : (ks : List Code) (cs : List ℕ) (k : Code) (others : List ℕ) → length (map codeNumber ks) ≤ 3 → length cs ≤ 32 → length others ≤ 32
+    → Short (each ks cs ++ anyOf k others)
+each-any-fits ks cs k others h few few′ =
+    record { fits = omega (arith, ap length (encode-each-any ks cs k others), each-any-short (map codeNumber ks) cs (codeNumber k) others h) }
 
 one-fits : (k : Code) (v : ℕ) → Short (one k v)
 one-fits k v = each-fits (k ∷ []) (v ∷ []) (omega arith) (omega arith)
@@ -88,7 +78,7 @@ module _ (v : ℕ) (cs : List ℕ) (few : length cs ≤ 32) where
   abort-fits conditional = any-fits _
 
 module _ (p : List ℕ) (ok : Accepted p) where
-  few-others : (v : ℕ) → length (others p v) ≤ 32
+  pub few-others : (v : ℕ) → length (others p v) ≤ 32
   unfolding others
   few-others v = omega (arith, keep-short (λ c. not (eqb c v)) (children p (parent p v)), few-children p ok (parent p v))
 

@@ -10,6 +10,11 @@ pub record Put (x b : List ℕ) (w : ℕ) (b′ : List ℕ) (w′ : ℕ) : Type 
   pub place : w′ ≡ w + length x
   pub held : b′ ≡ sets b w x
 
+-- few nodes, and room for a longest guard: 1 + 32 * 7 + 1 + 32 * 2 bytes
+pub record Room (cs b : List ℕ) : Type 0 where
+  pub few : length cs ≤ 32
+  pub room : 290 ≤ length b
+
 -- the events ks of c, and k of each of cs
 unfoldable pub pairs : List ℕ → ℕ → List ℕ
 pairs [] c = []
@@ -19,22 +24,23 @@ unfoldable pub anyPairs : ℕ → List ℕ → List ℕ
 anyPairs k [] = []
 anyPairs k (c ∷ cs) = k ∷ c ∷ anyPairs k cs
 
--- the clause [ks of c] for each of cs, and the clause [k of any of cs]
-unfoldable pub eachBytes : List ℕ → List ℕ → List ℕ
-eachBytes ks [] = []
-eachBytes ks (c ∷ cs) = (length ks ∷ pairs ks c) ++ eachBytes ks cs
+-- the clause [ks of c], one for each of cs, and the clause [k of any of cs]
+unfoldable pub clause : List ℕ → ℕ → List ℕ
+clause ks c = length ks ∷ pairs ks c
 
-unfoldable pub anyBytes : ℕ → List ℕ → List ℕ
-anyBytes k cs = length cs ∷ anyPairs k cs
+unfoldable pub eachClause : List ℕ → List ℕ → List ℕ
+eachClause ks [] = []
+eachClause ks (c ∷ cs) = clause ks c ++ eachClause ks cs
 
--- the two shapes of all guards: [ks] for each of xs, and the same followed by [k of any of ys]
-unfoldable pub eachShape : List ℕ → List ℕ → List ℕ
-eachShape ks xs = length xs ∷ eachBytes ks xs
+unfoldable pub anyClause : ℕ → List ℕ → List ℕ
+anyClause k cs = length cs ∷ anyPairs k cs
 
-unfoldable pub eachAnyShape : List ℕ → List ℕ → ℕ → List ℕ → List ℕ
-eachAnyShape ks xs k ys = (length xs + 1) ∷ (eachBytes ks xs ++ anyBytes k ys)
+-- guards: [k of v]; [ks] for each of cs, with the count of the clauses that follow besides; the same with [k of any of as] behind
+abbrev pub oneBytes : ℕ → ℕ → List ℕ
+oneBytes k v = 1 ∷ 1 ∷ k ∷ v ∷ []
 
--- a longest guard is 1 + 32 * 7 + 1 + 32 * 2 bytes
-pub record Room (cs b : List ℕ) : Type 0 where
-  pub few : length cs ≤ 32
-  pub room : 290 ≤ length b
+unfoldable pub eachBytes : List ℕ → List ℕ → ℕ → List ℕ
+eachBytes ks cs more = (length cs + more) ∷ eachClause ks cs
+
+unfoldable pub eachAnyBytes : List ℕ → List ℕ → ℕ → List ℕ → List ℕ
+eachAnyBytes ks cs k others = eachBytes ks cs 1 ++ anyClause k others

@@ -4,27 +4,23 @@ use mathlib.Core.List.{List, _++_}
 use Prim.Native.Nat.{ℕ, pred}
 use lib.Dec.{eqb}
 use Rattle.lists.specs.Seq.{keep, upFrom}
-use Rattle.plan.specs.Plan.{Kind, xor, isKind, size, parent, children, others}
+use Rattle.plan.specs.Plan.{Kind, xor, isKind, size, parent}
 use Rattle.event.specs.Event.{Code, start, offer, commit, abort, answered-yes, answered-no, pick, down}
 use Rattle.guard.specs.Guard.{Guard, one, anyOf, startBy, finishBy, abortBy}
 
--- the children of u but one; the root is nobody's child, so 0 leaves none out
-unfoldable pub isKin : List ℕ → ℕ → ℕ → ℕ → Bool
-isKin p u skip c = eqb (parent p c) u && not (eqb c skip)
+-- c is one of those whom the guard of an event of v speaks of: for a start its parent's children, for a turned down its siblings, else its children
+unfoldable pub isKin : List ℕ → Code → ℕ → ℕ → Bool
+isKin p start v c = eqb (parent p c) (parent p v)
+isKin p offer v c = eqb (parent p c) v
+isKin p commit v c = eqb (parent p c) v
+isKin p abort v c = eqb (parent p c) v
+isKin p answered-yes v c = eqb (parent p c) v
+isKin p answered-no v c = eqb (parent p c) v
+isKin p pick v c = eqb (parent p c) v
+isKin p down v c = eqb (parent p c) (parent p v) && not (eqb c v)
 
-unfoldable pub family : List ℕ → ℕ → ℕ → List ℕ
-family p u skip = keep (isKin p u skip) (upFrom 1 (pred (size p)))
-
--- whom the guard of an event of v speaks of
 unfoldable pub kin : List ℕ → Code → ℕ → List ℕ
-kin p start v = children p (parent p v)
-kin p offer v = children p v
-kin p commit v = children p v
-kin p abort v = children p v
-kin p answered-yes v = children p v
-kin p answered-no v = children p v
-kin p pick v = children p v
-kin p down v = others p v
+kin p code v = keep (isKin p code v) (upFrom 1 (pred (size p)))
 
 -- the guard by the kind of v, the kind of its parent u, and whom it speaks of
 unfoldable pub rowBy : Code → Kind → Kind → ℕ → ℕ → List ℕ → Guard
