@@ -40,9 +40,9 @@ kind-none k h =
 
 -- finishing and abort, by the node's kind
 module _ (k v : ℕ) (cs : List ℕ) where
-  pub finish-serial : k ≡ 2 → encode (finishBy (kindOf k) v cs) ≡ oneBytes 3 (lastOr v cs)
+  pub finish-serial : {d : ℕ} → d ≡ lastOr v cs → k ≡ 2 → encode (finishBy (kindOf k) v cs) ≡ oneBytes 3 d
   unfolding kindOf finishBy codeNumber
-  finish-serial e = rw e (encode-one commit (lastOr v cs))
+  finish-serial is e = rw (e, is) (encode-one commit (lastOr v cs))
 
   pub finish-and : k ≡ 3 → encode (finishBy (kindOf k) v cs) ≡ eachBytes (3 ∷ []) cs 0
   unfolding kindOf finishBy codeNumber
@@ -76,9 +76,9 @@ module _ (k v : ℕ) (cs : List ℕ) where
   unfolding kindOf abortBy codeNumber
   abort-each a b = let all = encode-each (abort ∷ []) cs in ⊎-elim (λ e. rw e all) (λ e. rw e all) (two 4 k a b)
 
-  pub abort-contingency : k ≡ 6 → encode (abortBy (kindOf k) v cs) ≡ oneBytes 4 (lastOr v cs)
+  pub abort-contingency : {d : ℕ} → d ≡ lastOr v cs → k ≡ 6 → encode (abortBy (kindOf k) v cs) ≡ oneBytes 4 d
   unfolding kindOf abortBy codeNumber
-  abort-contingency e = rw e (encode-one abort (lastOr v cs))
+  abort-contingency is e = rw (e, is) (encode-one abort (lastOr v cs))
 
   pub abort-task : (2 ≤ k → k ≤ 7 → ⊥) → encode (abortBy (kindOf k) v cs) ≡ oneBytes 1 v
   unfolding abortBy codeNumber
@@ -93,7 +93,7 @@ first-or cs v k x j y = rw (first-before cs v) (go (eqb (beforeIn v cs v) v))
     go true = encode-one k x
     go false = encode-one j y
 
-module _ (k u : ℕ) (cs : List ℕ) (v d : ℕ) (is : d ≡ beforeIn v cs v) where
+module _ (k u : ℕ) (cs : List ℕ) (v : ℕ) {d : ℕ} (is : d ≡ beforeIn v cs v) where
   pub start-serial : k ≡ 2 → encode (startBy (kindOf k) u cs v) ≡ cond (eqb d v) (oneBytes 1 u) (oneBytes 3 d)
   unfolding kindOf startBy codeNumber
   start-serial e = rw (e, is) (first-or cs v start u commit (beforeIn v cs v))
@@ -106,6 +106,7 @@ module _ (k u : ℕ) (cs : List ℕ) (v d : ℕ) (is : d ≡ beforeIn v cs v) wh
   unfolding kindOf startBy codeNumber
   start-conditional e = rw (e, is) (first-or cs v answered-yes u answered-no u)
 
+module _ (k u : ℕ) (cs : List ℕ) (v : ℕ) where
   pub start-block : 3 ≤ k → k ≤ 5 → encode (startBy (kindOf k) u cs v) ≡ oneBytes 1 u
   unfolding kindOf startBy codeNumber
   start-block a b =
@@ -149,52 +150,3 @@ module _ (code k above u v : ℕ) (cs : List ℕ) where
   pub row-down : (1 ≤ code → code ≤ 7 → ⊥) → encode (rowBy (codeOf code) (kindOf k) (kindOf above) u v cs) ≡ eachAnyBytes (2 ∷ []) (v ∷ []) 7 cs
   unfolding rowBy codeNumber
   row-down h = rw (code-down code h) (encode-each-any (offer ∷ []) (v ∷ []) pick cs)
-
--- whom the guard speaks of, by the code's number
-module _ (p : List ℕ) (v c : ℕ) where
-  pub kin-start : (code : ℕ) → code ≡ 1 → isKin p (codeOf code) v c ≡ eqb (parent p c) (parent p v)
-  unfolding codeOf isKin
-  kin-start code e = rw e
-
-  pub kin-own : (code : ℕ) → 2 ≤ code → code ≤ 7 → isKin p (codeOf code) v c ≡ eqb (parent p c) v
-  unfolding codeOf isKin
-  kin-own zero a b = absurd (omega arith)
-  kin-own (suc zero) a b = absurd (omega arith)
-  kin-own (suc (suc zero)) a b = refl
-  kin-own (suc (suc (suc zero))) a b = refl
-  kin-own (suc (suc (suc (suc zero)))) a b = refl
-  kin-own (suc (suc (suc (suc (suc zero))))) a b = refl
-  kin-own (suc (suc (suc (suc (suc (suc zero)))))) a b = refl
-  kin-own (suc (suc (suc (suc (suc (suc (suc zero))))))) a b = refl
-  kin-own (suc (suc (suc (suc (suc (suc (suc (suc code)))))))) a b = absurd (omega arith)
-
-  pub kin-down : (code : ℕ) → (1 ≤ code → code ≤ 7 → ⊥) → isKin p (codeOf code) v c ≡ (eqb (parent p c) (parent p v) && not (eqb c v))
-  unfolding isKin
-  kin-down code h = rw (code-down code h)
-
--- the guard is its row
-kin-others : (p : List ℕ) (v : ℕ) → kin p down v ≡ others p v
-unfolding kin isKin others children childrenBelow
-kin-others p v = sym (keep-keep (λ c. eqb (parent p c) (parent p v)) (λ c. not (eqb c v)) (upFrom 1 (pred (size p))))
-
-guard-row : (p : List ℕ) (code : Code) (v : ℕ) → guardBy p code v ≡ rowBy code (kind p v) (above p v) (parent p v) v (kin p code v)
-unfolding guardBy rowBy kin isKin children childrenBelow finishing aborting inXor
-guard-row p start v = refl
-guard-row p offer v = refl
-guard-row p commit v = refl
-guard-row p abort v = refl
-guard-row p answered-yes v = refl
-guard-row p answered-no v = refl
-guard-row p pick v = refl
-guard-row p down v = ap (λ cs. one offer v ++ anyOf pick cs) (sym (kin-others p v))
-
-pub kin-few : (p : List ℕ) → Accepted p → (code : Code) (v : ℕ) → length (kin p code v) ≤ 32
-unfolding kin isKin children childrenBelow
-kin-few p ok start v = few-children p ok (parent p v)
-kin-few p ok offer v = few-children p ok v
-kin-few p ok commit v = few-children p ok v
-kin-few p ok abort v = few-children p ok v
-kin-few p ok answered-yes v = few-children p ok v
-kin-few p ok answered-no v = few-children p ok v
-kin-few p ok pick v = few-children p ok v
-kin-few p ok down v = rw (kin-others p v) (few-others p ok v)

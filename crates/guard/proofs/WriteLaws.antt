@@ -3,19 +3,23 @@ use mathlib.Core.Path.{_≡_, refl, sym, ap, _∙_}
 use mathlib.Core.Bool.{Bool, true, false, cond, not}
 use mathlib.Core.List.{List, _++_}
 use Prim.Native.Nat.{ℕ, _≤_, _<_}
+use native.Mathlib.Nat.{zero-add}
 use native.Mathlib.Omega.{arith}
 use borrow.Author.Tests.{eq-eqb, ne-eqb, eqb-true, eqb-false, leb-true, leb-false, le-leb, lt-leb}
 use lib.Dec.{eqb, leb}
-use lib.ListN.{length, drop}
+use lib.ListN.{length, take, drop}
+use lib.Seq.{take-length}
 use Rattle.lists.proofs.Logic.{cases, decided}
 use Rattle.event.specs.Event.{eventOf}
 use Rattle.event.specs.Valid.{invalid, Valid}
 use Rattle.event.proofs.ValidLaws.{valid}
 use Rattle.guard.specs.Guard.{guard}
 use Rattle.guard.specs.Bytes.{encode}
+use Rattle.guard.specs.Put.{Put}
 use Rattle.guard.specs.Written.{Filled, filled, fitted, writeOf}
 use Rattle.guard.specs.declared.Written.{Written}
 use Rattle.guard.specs.declared.Written.the-variants.{Done, Refused}
+use Rattle.guard.proofs.PutLaws.{front}
 use Rattle.guard.proofs.Short.{guard-short}
 
 pub fitted-not : (x b : List ℕ) → length b < length x → fitted x b ≡ filled b (Refused 7)
@@ -34,6 +38,15 @@ module _ (p : List ℕ) (code node : ℕ) (b : List ℕ) where
   pub write-valid : invalid p true true code node ≡ 0 → writeOf p code node b ≡ fitted (encode (guard p (eventOf code node))) b
   unfolding writeOf
   write-valid h = rw (eq-eqb (invalid p true true code node) 0 h)
+
+-- x, copied from a list that has it at its front
+pub copied : (b : List ℕ) {x z src out : List ℕ} {n m : ℕ} → Put x z 0 src n → length x ≤ length z → m ≡ length (take n src) → out ≡ take m (take n src) ++ drop m b
+    → filled (x ++ drop (length x) b) (Done (length x)) ≡ filled out (Done n)
+copied b {x = x} {src = src} {out = out} {n = n} {m = m} h l e o =
+    let q : take n src ≡ x = front h l in
+    let r : m ≡ length x = e ∙ ap length q in
+    let s : out ≡ x ++ drop (length x) b = o ∙ ap (λ y. take m y ++ drop m b) q ∙ ap (λ k. take k x ++ drop k b) r ∙ ap (λ y. y ++ drop (length x) b) (take-length x) in
+    ap (λ y. filled y (Done (length x))) (sym s) ∙ ap (λ k. filled out (Done k)) (sym (h .place ∙ zero-add (length x)))
 
 -- the writer wrote: the guard stands at the front of b, and n is its length
 pub record DoneTold (p : List ℕ) (code node : ℕ) (b b′ : List ℕ) (n : ℕ) : Type 0 where

@@ -1,9 +1,9 @@
 // The guard of an event, at the front of a buffer of 290 bytes or more: whom it speaks of, and its row by code and kind.
 ghost use mathlib.Core.Path.{_≡_};
-ghost use Prim.Native.Nat.{_<_, _≤_};
+ghost use Prim.Native.Nat.{_≤_};
 ghost use lib.ListN.{length};
 ghost use Rattle.lists.specs.Seq.{lastOr};
-ghost use Rattle.plan.specs.Plan.{kindOf};
+ghost use Rattle.plan.specs.Plan.{kindOf, size};
 ghost use Rattle.plan.specs.Check.{Accepted};
 ghost use Rattle.event.specs.Event.{codeOf, eventOf};
 ghost use Rattle.guard.specs.Guard.{beforeIn, startBy, finishBy, abortBy, guard};
@@ -24,7 +24,7 @@ fn is_kin(plan: &[u8], code: u8, v: u8, c: u8) -> bool
 
 // Those whom the guard speaks of, at the front of cs, and how many they are.
 fn kin(plan: &[u8], code: u8, v: u8, cs: &mut [u8]) -> usize
-    requires { ⌜ length (now plan) ≤ 320 ⌝ }
+    requires { ⌜ size (now plan) ≤ 160 ⌝ }
     requires { ⌜ length (kin (now plan) (codeOf code) v) ≤ length (now cs) ⌝ }
     ensures { λ r. ⌜ Put (kin (now (plan .entry)) (codeOf code) v) (now (cs .entry)) 0 (now (cs .exit)) r ⌝ }
 {
@@ -135,5 +135,13 @@ pub(crate) fn fill(plan: &[u8], code: u8, v: u8, buf: &mut [u8]) -> usize
 {
     let mut cs = [0u8; 32];
     let n = kin(plan, code, v, &mut cs);
-    row(code, plan::kind(plan, v), plan::above(plan, v), plan::parent(plan, v), v, &cs[..n], buf)
+    row(
+        code,
+        plan::kind(plan, v),
+        plan::above(plan, v),
+        plan::parent(plan, v),
+        v,
+        &cs[..n],
+        buf,
+    )
 }

@@ -84,5 +84,9 @@ pub(crate) fn one_of(so: bool, code: u8, v: u8, other: u8, u: u8, buf: &mut [u8]
     requires { ⌜ 290 ≤ length (now buf) ⌝ }
     ensures { λ r. ⌜ Put (cond so (oneBytes code v) (oneBytes other u)) (now (buf .entry)) 0 (now (buf .exit)) r ⌝ }
 {
-    if so { one(code, v, buf) } else { one(other, u, buf) }
+    if so {
+        one(code, v, buf)
+    } else {
+        one(other, u, buf)
+    }
 }

@@ -1,63 +1,65 @@
+-- The loop's invariant: the kin from c on give, from w on, what all of them give from the front. Assumes nothing.
+use mathlib.Core.Path.{_≡_, sym, _∙_}
+use mathlib.Core.Logic.{⊎-elim}
+use Prim.Native.Nat.{_-_, _+_, _≤_}
+use native.Mathlib.Nat.{zero-add}
+use native.Mathlib.Omega.{arith}
+use Rattle.lists.specs.Seq.{keep, upFrom}
+use Rattle.event.specs.Event.{codeOf}
+use Rattle.guard.specs.Row.{isKin, kin}
+use Rattle.guard.proofs.PutLaws.{Left}
+use Rattle.guard.proofs.KinLaws.{kin-begin, kept, skipped, kept-room, all-kept}
+use borrow.Author.Needs.{needs}
 use Rattle.guard.proofs.fill.kin.Statement.{statement}
 use Rattle.guard.proofs.fill.kin.Tie as tie
-use Rattle.guard.proofs.fill.kin.Reads as reads
-use Rattle.guard.proofs.fill.kin.Lts as lts
-use Rattle.guard.proofs.fill.is_kin.Reads as is-kin-reads
-use Rattle.plan.proofs.node_count.Reads as node-count-reads
 
 abbrev Inv-loop : tie.InvT-loop
-Inv-loop plan code v cs₀ n w₀ c₀ cs w c = ?
+Inv-loop plan code v cs₀ n w₀ c₀ cs w c = (w ≤ c) × Left (keep (isKin plan (codeOf code) v) (upFrom c (n - c))) (kin plan (codeOf code) v) cs₀ w₀ cs w
 
 abbrev μ-loop : tie.MeasureT-loop
-μ-loop plan code v cs₀ n w₀ c₀ cs w c = ?
+μ-loop plan code v cs₀ n w₀ c₀ cs w c = n - c
 
--- src/fill.rt:31:9
 node-count-requires : tie.Need-node-count-requires Inv-loop μ-loop
-node-count-requires c κs = ?
+node-count-requires c κs = search needs
 
--- src/fill.rt:34:5
 loop-holds : tie.Need-loop-holds Inv-loop μ-loop
-loop-holds c = ?
+loop-holds c = (search needs, kin-begin _ _ _ _ _ (c .node-count .ensures))
 
--- src/fill.rt:35:34
 cast-is-kin : tie.Need-cast-is-kin Inv-loop μ-loop
-cast-is-kin c = ?
+cast-is-kin c = omega (arith, c .before .before .node-count .ensures)
 
--- src/fill.rt:35:12
 is-kin-requires : tie.Need-is-kin-requires Inv-loop μ-loop
-is-kin-requires c κs = ?
+is-kin-requires c κs = search needs
 
--- src/fill.rt:36:21
 cast-cs : tie.Need-cast-cs Inv-loop μ-loop
-cast-cs c = ?
+cast-cs c = omega (arith, c .before .before .before .before .node-count .ensures)
 
--- src/fill.rt:36:13
 slice-write-cs : tie.Need-slice-write-cs Inv-loop μ-loop
-slice-write-cs c = ?
+slice-write-cs c = kept-room _ _ _ (c .before .before .before .loop .inv .1) (c .before .before .loop-test .taken) (sym (c .before .is-kin .ensures) ∙ c .if1 .taken) (rw zero-add (c .before .before .before .before .before .before .before .pre .1))
 
--- src/fill.rt:37:13
 add-w : tie.Need-add-w Inv-loop μ-loop
-add-w c = ?
+add-w c = search needs
 
--- src/fill.rt:39:9
 add-c : tie.Need-add-c Inv-loop μ-loop
-add-c c = ?
+add-c c = search needs
 
--- src/fill.rt:34:5
 loop-less : tie.Need-loop-less Inv-loop μ-loop
-loop-less c = ?
+loop-less c = search needs
 
--- src/fill.rt:34:5
 loop-again : tie.Need-loop-again Inv-loop μ-loop
-loop-again c = ?
+loop-again c = let l = c .before .before .before .loop in
+    let t = c .before .before .loop-test .taken in
+    let e = sym (c .before .is-kin .ensures) in
+    ⊎-elim
+    (λ w. (search needs, rw (w .1, w .2) (kept _ _ _ (l .inv .1) t (e ∙ w .0 .taken))))
+    (λ w. (search needs, rw (w .1, w .2) (skipped _ _ _ (l .inv .1) t (e ∙ w .0 .left))))
+    (c .if1 .came)
 
--- src/fill.rt:26:1
 same-length : tie.Need-same-length Inv-loop μ-loop
-same-length c = ?
+same-length c = c .before .loop .inv .1 .long
 
--- src/fill.rt:26:1
 returns : tie.Need-returns Inv-loop μ-loop
-returns c = ?
+returns c = all-kept _ _ _ (c .before .loop .inv .1) (c .loop-test .left)
 
 pub kin-spec : {M : Type 1} → statement M
 kin-spec =

@@ -1,117 +1,89 @@
+-- Each arm writes its row, as the laws of rows say. Assumes nothing.
+use mathlib.Core.Logic.{⊎-elim}
+use native.Mathlib.Omega.{arith}
+use Rattle.guard.proofs.PutLaws.{put-as}
+use Rattle.guard.proofs.RowLaws.{row-start, row-offer, row-picked, row-commit, row-abort, row-answer, row-pick, row-down}
 use borrow.Author.Needs.{needs}
 use Rattle.guard.proofs.fill.row.Statement.{statement}
 use Rattle.guard.proofs.fill.row.Tie as tie
-use Rattle.guard.proofs.fill.row.Reads as reads
-use Rattle.guard.proofs.fill.row.Lts as lts
-use Rattle.guard.proofs.fill.abort.Reads as abort-reads
-use Rattle.guard.proofs.fill.finish.Reads as finish-reads
-use Rattle.guard.proofs.fill.start.Reads as start-reads
-use Rattle.guard.proofs.put.each_any.Reads as each-any-reads
-use Rattle.guard.proofs.put.one.Reads as one-reads
 
--- src/fill.rt:117:14
 start-requires : tie.Need-start-requires
 start-requires c κs = search needs
 
--- src/fill.rt:118:14
 finish-requires : tie.Need-finish-requires
 finish-requires c κs = search needs
 
--- src/fill.rt:120:13
 one-requires : tie.Need-one-requires
 one-requires c κs = search needs
 
--- src/fill.rt:122:13
 finish-requires-2 : tie.Need-finish-requires-2
 finish-requires-2 c κs = search needs
 
--- src/fill.rt:124:14
 abort-requires : tie.Need-abort-requires
 abort-requires c κs = search needs
 
--- src/fill.rt:126:14
 one-requires-2 : tie.Need-one-requires-2
 one-requires-2 c κs = search needs
 
--- src/fill.rt:125:18
 one-requires-3 : tie.Need-one-requires-3
 one-requires-3 c κs = search needs
 
--- src/fill.rt:127:35
 slice-aggregate-each-any : tie.Need-slice-aggregate-each-any
 slice-aggregate-each-any c = search needs
 
--- src/fill.rt:127:41
 slice-aggregate-each-any-2 : tie.Need-slice-aggregate-each-any-2
 slice-aggregate-each-any-2 c = search needs
 
--- src/fill.rt:127:14
 each-any-requires : tie.Need-each-any-requires
 each-any-requires c κs = search needs
 
--- src/fill.rt:112:1
 same-length : tie.Need-same-length
 same-length c = search needs
 
--- src/fill.rt:112:1
 returns : tie.Need-returns
-returns c = ?
+returns c = put-as (row-start _ _ _ _ _ _ (c .before .before .before .before .match .keys1)) (c .before .before .start .ensures)
 
--- src/fill.rt:112:1
 same-length-2 : tie.Need-same-length-2
 same-length-2 c = search needs
 
--- src/fill.rt:112:1
 returns-2 : tie.Need-returns-2
-returns-2 c = ?
+returns-2 c = put-as (row-offer _ _ _ _ _ _ (c .before .before .before .before .match .keys2)) (c .before .before .finish .ensures)
 
--- src/fill.rt:112:1
 same-length-3 : tie.Need-same-length-3
 same-length-3 c = search needs
 
--- src/fill.rt:112:1
 returns-3 : tie.Need-returns-3
-returns-3 c = ?
+returns-3 c = put-as (row-picked _ _ _ _ _ _ (c .before .before .before .before .before .match .keys3) (c .before .before .before .before .if1 .taken)) (c .before .before .one .ensures)
 
--- src/fill.rt:112:1
 same-length-4 : tie.Need-same-length-4
 same-length-4 c = search needs
 
--- src/fill.rt:112:1
 returns-4 : tie.Need-returns-4
-returns-4 c = ?
+returns-4 c = put-as (row-commit _ _ _ _ _ _ (c .before .before .before .before .before .match .keys3) (c .before .before .before .before .if1 .left)) (c .before .before .finish2 .ensures)
 
--- src/fill.rt:112:1
 same-length-5 : tie.Need-same-length-5
 same-length-5 c = search needs
 
--- src/fill.rt:112:1
 returns-5 : tie.Need-returns-5
-returns-5 c = ?
+returns-5 c = put-as (row-abort _ _ _ _ _ _ (c .before .before .before .before .match .keys4)) (c .before .before .abort .ensures)
 
--- src/fill.rt:112:1
 same-length-6 : tie.Need-same-length-6
 same-length-6 c = search needs
 
--- src/fill.rt:112:1
 returns-6 : tie.Need-returns-6
-returns-6 c = ?
+returns-6 c = put-as (row-pick _ _ _ _ _ _ (c .before .before .before .before .match .keys5)) (c .before .before .one2 .ensures)
 
--- src/fill.rt:112:1
 same-length-7 : tie.Need-same-length-7
 same-length-7 c = search needs
 
--- src/fill.rt:112:1
 returns-7 : tie.Need-returns-7
-returns-7 c = ?
+returns-7 c = put-as (row-answer _ _ _ _ _ _ (omega arith) (omega arith)) (c .before .before .one3 .ensures)
 
--- src/fill.rt:112:1
 same-length-8 : tie.Need-same-length-8
 same-length-8 c = search needs
 
--- src/fill.rt:112:1
 returns-8 : tie.Need-returns-8
-returns-8 c = ?
+returns-8 c = put-as (row-down _ _ _ _ _ _ (λ a b. ⊎-elim (λ w. omega arith) (λ w. omega arith) (c .before .before .before .before .before .before .if2 .came))) (c .before .before .each-any .ensures)
 
 pub row-spec : {M : Type 1} → statement M
 row-spec =
