@@ -1,1 +1,3 @@
--- Laws.
+-- Laws that the proofs here cite.
+pub mod TableLaws
+pub mod SettleLaws
