@@ -1,3 +1,4 @@
 -- Laws that the proofs here cite.
 pub mod TableLaws
 pub mod SettleLaws
+pub mod PassLaws

@@ -184,8 +184,8 @@ fn settle_all(plan: &[u8], answers: &[u8], marks: &mut [u8]) -> u8
     if number != 0 {
         return number;
     }
-    buf[0] = root_mark(o);
     bytes::copy(&buf[..n], marks);
+    marks[0] = root_mark(o);
     0
 }
 
