@@ -6,3 +6,4 @@ pub mod Below
 pub mod Table
 pub mod Lent
 pub mod Filling
+pub mod Between
