@@ -2,3 +2,5 @@
 pub mod Stand
 pub mod Finite
 pub mod Said
+pub mod Family
+pub mod Good
