@@ -46,7 +46,11 @@ pub fn parent(plan: &[u8], v: u8) -> u8
 pub fn above(plan: &[u8], v: u8) -> u8
     ensures { λ r. ⌜ r ≡ aboveByte (now (plan .entry)) v ⌝ }
 {
-    if v == 0 { 1 } else { kind(plan, parent(plan, v)) }
+    if v == 0 {
+        1
+    } else {
+        kind(plan, parent(plan, v))
+    }
 }
 
 fn kind_at(plan: &[u8], v: usize) -> u8

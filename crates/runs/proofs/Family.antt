@@ -1,18 +1,18 @@
 -- Brothers in a rising list: the first, the last, the one before; and nodes whose parent is an xor. Assumes nothing.
 use mathlib.Core.Path.{_≡_, refl, sym, _∙_, ap}
 use mathlib.Core.Bool.{Bool, true, false, cond, false≢true}
-use mathlib.Core.List.{List, [], _∷_}
+use mathlib.Core.List.{List, _∷_}
 use Prim.Native.Nat.{ℕ, _≤_, _<_}
 use lib.Dec.{eqb}
 use lib.ListN.{length}
-use borrow.Author.Tests.{eqb-true, eqb-false, ne-eqb}
+use borrow.Author.Tests.{eqb-false, eqb-true, ne-eqb}
 use native.Mathlib.Omega.{arith}
-use Rattle.lists.specs.Seq.{all, lastOr, headOr, earlier}
-use Rattle.lists.specs.Member.{In, here, there, Rising, next}
+use Rattle.lists.specs.Seq.{all, headOr, lastOr, earlier}
+use Rattle.lists.specs.Member.{Either, left, right, In, here, there, Rising, next}
 use Rattle.lists.proofs.Logic.{cases, same-bool, decided}
 use Rattle.lists.proofs.Members.{all-at, all-by, rising-above}
 use Rattle.lists.proofs.Points.{in-earlier, earlier-in, last-member, last-greatest}
-use Rattle.plan.specs.Plan.{Kind, task, xor, conditional, kindNumber, isKind, kindOf, size, kindByte, kind, parent, children, above, inXor}
+use Rattle.plan.specs.Plan.{Kind, task, serial, and, or, xor, contingency, conditional, kindNumber, isKind, kindOf, size, kindByte, kind, parent, children, above, inXor}
 use Rattle.plan.proofs.PlanLaws.{Child, child-of}
 use Rattle.plan.proofs.KindLaws.{is-kind}
 use Rattle.guard.specs.Guard.{beforeIn, isFirst}
@@ -83,6 +83,20 @@ first-none H cs v r e = all-by H (earlier cs v) (λ c j. let k = earlier-in cs v
 -- a kind by its test
 kind-is : (j : Kind) (k : ℕ) → 1 < kindNumber j → kindOf (kindNumber j) ≡ j → isKind j (kindOf k) ≡ true → kindOf k ≡ j
 kind-is j k l q h = ap kindOf (eqb-true k (kindNumber j) (sym (is-kind j k l) ∙ h)) ∙ q
+
+pub not-task : (k : Kind) → isKind task k ≡ false → k ≡ task → ⊥
+unfolding isKind kindNumber
+not-task k h q = false≢true (sym h ∙ ap (isKind task) q)
+
+pub task-or-not : (k : Kind) → Either (k ≡ task) (k ≡ task → ⊥)
+unfolding isKind kindNumber
+task-or-not task = left refl
+task-or-not serial = right (not-task serial refl)
+task-or-not and = right (not-task and refl)
+task-or-not or = right (not-task or refl)
+task-or-not xor = right (not-task xor refl)
+task-or-not contingency = right (not-task contingency refl)
+task-or-not conditional = right (not-task conditional refl)
 
 module _ (p : List ℕ) where
   pub xor-is : (v : ℕ) → isKind xor (kind p v) ≡ true → kind p v ≡ xor

@@ -4,3 +4,7 @@ pub mod Finite
 pub mod Said
 pub mod Family
 pub mod Good
+pub mod BarLaws
+pub mod GuardLaws
+pub mod Facts
+pub mod Fits
