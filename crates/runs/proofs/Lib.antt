@@ -8,3 +8,5 @@ pub mod BarLaws
 pub mod GuardLaws
 pub mod Facts
 pub mod Fits
+pub mod Count
+pub mod RunLaws
