@@ -2,20 +2,21 @@
 use mathlib.Core.Path.{_≡_, refl, sym, _∙_, ap}
 use mathlib.Core.Bool.{Bool, true, false, cond, false≢true}
 use mathlib.Core.List.{List, _∷_}
-use Prim.Native.Nat.{ℕ, _≤_, _<_}
+use Prim.Native.Nat.{ℕ, zero, suc, _≤_, _<_}
 use lib.Dec.{eqb}
 use lib.ListN.{length}
 use borrow.Author.Tests.{eqb-false, eqb-true, ne-eqb}
 use native.Mathlib.Omega.{arith}
 use Rattle.lists.specs.Seq.{all, headOr, lastOr, earlier}
 use Rattle.lists.specs.Member.{Either, left, right, In, here, there, Rising, next}
-use Rattle.lists.proofs.Logic.{cases, same-bool, decided}
+use Rattle.lists.proofs.Logic.{cases, same-bool, clash, decided}
 use Rattle.lists.proofs.Members.{all-at, all-by, rising-above}
 use Rattle.lists.proofs.Points.{in-earlier, earlier-in, last-member, last-greatest}
 use Rattle.plan.specs.Plan.{Kind, task, serial, and, or, xor, contingency, conditional, kindNumber, isKind, kindOf, size, kindByte, kind, parent, children, above, inXor}
 use Rattle.plan.proofs.PlanLaws.{Child, child-of}
 use Rattle.plan.proofs.KindLaws.{is-kind}
 use Rattle.guard.specs.Guard.{beforeIn, isFirst}
+use Rattle.pass.specs.Pass.{goes}
 
 pub first-least : {d : ℕ} {cs : List ℕ} {v c : ℕ} → Rising d cs → isFirst cs v ≡ true → In c cs → v ≤ c
 unfolding isFirst headOr
@@ -75,6 +76,14 @@ module _ (H : ℕ → Bool) (cs : List ℕ) (rising : Rising 0 cs) (chain : (c :
       same-bool _ _
       (λ h. all-by H (earlier cs v) (λ c j. let k = earlier-in cs v j in up-to (beforeIn v cs v) (b .member) h c (k .0) (b .most c (k .0) (k .1))))
       (all-at H (in-earlier (b .member) (b .less)))
+
+-- where each whose earlier ones all are as f is as f or as h, all below top are as f if none of them is as h
+pub chain-until : (f h : ℕ → Bool) (cs : List ℕ) → ((c : ℕ) → In c cs → all f (earlier cs c) ≡ true → Either (f c ≡ true) (h c ≡ true)) →
+    (top : ℕ) → ((c : ℕ) → In c cs → c < top → h c ≡ false) → (n c : ℕ) → c < n → In c cs → c < top → f c ≡ true
+chain-until f h cs goes top clear zero c l i t = absurd (omega arith)
+chain-until f h cs goes top clear (suc n) c l i t = cases
+    (goes c i (all-by f (earlier cs c) (λ d j. let k = earlier-in cs c j in chain-until f h cs goes top clear n d (omega arith) (k .0) (omega arith))))
+    (λ e. e) (λ e. clash _ e (clear c i t))
 
 -- the first has none before it
 pub first-none : (H : ℕ → Bool) {d : ℕ} (cs : List ℕ) (v : ℕ) → Rising d cs → isFirst cs v ≡ true → all H (earlier cs v) ≡ true

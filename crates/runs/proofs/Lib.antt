@@ -10,3 +10,5 @@ pub mod Facts
 pub mod Fits
 pub mod Count
 pub mod RunLaws
+pub mod Stuck
+pub mod Ended
