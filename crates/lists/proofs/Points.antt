@@ -1,16 +1,16 @@
 -- Tests over lists by points: where one fails, what grows; members of maps and of appended lists; the members below a number. Assumes nothing.
-use mathlib.Core.Path.{_≡_, refl, ap, _∙_}
-use mathlib.Core.Bool.{Bool, true, false, _&&_, _||_, cond, not, true≢false}
+use mathlib.Core.Path.{_≡_, refl, _∙_, ap}
+use mathlib.Core.Bool.{Bool, true, false, not, _&&_, _||_, cond, or-false, true≢false}
 use mathlib.Core.List.{List, [], _∷_, _++_, map}
 use Prim.Native.Nat.{ℕ, suc, _≤_, _<_}
 use lib.Dec.{eqb, ltb}
 use lib.ListN.{length}
-use borrow.Author.Tests.{ltb-true, ltb-false, lt-ltb, le-ltb, ne-eqb}
+use borrow.Author.Tests.{le-ltb, lt-ltb, ltb-false, ltb-true, ne-eqb}
 use native.Mathlib.Omega.{arith}
 use Rattle.lists.specs.Seq.{all, any, keep, lastOr, earlier}
 use Rattle.lists.specs.Member.{Either, left, right, In, here, there, Rising, next}
-use Rattle.lists.proofs.Logic.{cases, either, and-right, and-join, clash, no-bool, same-bool, decided}
-use Rattle.lists.proofs.Members.{all-at, all-by, any-at, any-by, keep-in, in-keep, none-in, last-in, last-top, rising-above}
+use Rattle.lists.proofs.Logic.{cases, same-bool, no-bool, either, and-right, and-join, clash, decided}
+use Rattle.lists.proofs.Members.{all-at, all-by, any-by, any-at, keep-in, in-keep, any-append, rising-above, none-in, last-in, last-top}
 use Rattle.lists.proofs.Keep.{keep-same, keep-keep, keep-short}
 
 pub or-grows : (a b c d : Bool) → (a ≡ true → c ≡ true) → (b ≡ true → d ≡ true) → (a || b) ≡ true → (c || d) ≡ true
@@ -46,6 +46,16 @@ module _ {A : Type 0} where
   pub in-right : {x : A} (xs : List A) {ys : List A} → In x ys → In x (xs ++ ys)
   in-right [] i = i
   in-right (x ∷ xs) i = there (in-right xs i)
+
+  -- one more at the end
+  pub in-snoc : (xs : List A) {x y : A} → In x (xs ++ (y ∷ [])) → Either (In x xs) (x ≡ y)
+  in-snoc [] (here q) = right q
+  in-snoc (z ∷ xs) (here q) = left (here q)
+  in-snoc (z ∷ xs) (there i) = cases (in-snoc xs i) (λ j. left (there j)) right
+
+  pub any-snoc : (f : A → Bool) (xs : List A) (y : A) → any f (xs ++ (y ∷ [])) ≡ (any f xs || f y)
+  unfolding any
+  any-snoc f xs y = any-append f xs (y ∷ []) ∙ simp or-false
 
   pub any-keep : (f : A → Bool) (xs : List A) → any f xs ≡ not (eqb (length (keep f xs)) 0)
   unfolding any keep

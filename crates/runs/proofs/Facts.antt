@@ -1,6 +1,6 @@
 -- What a state that a run reaches tells of a node and its parent: places, answers, offers and picks. Assumes nothing.
 use mathlib.Core.Path.{_≡_, refl, sym, _∙_, subst}
-use mathlib.Core.Bool.{Bool, true, not, _||_, or-false, or-true}
+use mathlib.Core.Bool.{true, not, _||_, or-false, or-true}
 use mathlib.Core.List.{List}
 use Prim.Native.Nat.{ℕ, _<_}
 use lib.Dec.{eqb}
@@ -13,16 +13,13 @@ use Rattle.lists.proofs.Members.{any-by, any-at, keep-in}
 use Rattle.plan.specs.Plan.{serial, contingency, size, kind, parent, children, others, above, inXor}
 use Rattle.plan.proofs.PlanLaws.{child-of, child-in}
 use Rattle.event.specs.Event.{offer, pick, at, appliesBy, applies}
-use Rattle.central.specs.Mark.{Mark, idle, offered, committed, failed, turned-down, markNumber, isMark}
+use Rattle.central.specs.Mark.{idle, offered, committed, failed, turned-down, markNumber, isMark}
 use Rattle.central.specs.Central.{Central, marked, started, reachedBy, mayStart, finishesBy}
 use Rattle.runs.proofs.Finite.{marks, mark-implies}
 use Rattle.runs.proofs.Said.{saidBy, said}
 use Rattle.runs.proofs.Family.{xor-child}
 use Rattle.runs.proofs.Good.{Good}
-
--- the node has done its part: it is offered, at least
-unfoldable pub isWorked : Mark → Bool
-isWorked m = isMark offered m || isMark turned-down m || isMark committed m
+use Rattle.runs.proofs.MarkLaws.{isWorked}
 
 module _ (p : List ℕ) (s : Central) (v : ℕ) where
   pub commit-started : marked s committed v ≡ true → started s v ≡ true

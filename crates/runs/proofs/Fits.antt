@@ -54,7 +54,7 @@ module _ (p : List ℕ) (ok : Accepted p) (s : Central) (good : Good p s) where
     some-block {k} q h = ok .blocks v l (λ r. not-task k h (sym q ∙ r))
 
     -- a conditional's two children: only the one of its branch has started
-    by-branch : (f : ℕ → Bool) → ((c : ℕ) → f c ≡ true → started s c ≡ true) → kind p v ≡ conditional →
+    pub by-branch : (f : ℕ → Bool) → ((c : ℕ) → f c ≡ true → started s c ≡ true) → kind p v ≡ conditional →
         any f (children p v) ≡ ofBranch f (s .answer v) (children p v)
     unfolding reachedBy
     by-branch f st q =

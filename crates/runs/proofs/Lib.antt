@@ -6,9 +6,11 @@ pub mod Family
 pub mod Good
 pub mod BarLaws
 pub mod GuardLaws
+pub mod MarkLaws
 pub mod Facts
 pub mod Fits
 pub mod Count
 pub mod RunLaws
 pub mod Stuck
 pub mod Ended
+pub mod PassTally

@@ -47,11 +47,11 @@ StuckEnded = (p : List ℕ) → Accepted p → (es : List Event) → isRun p es 
 -- I10: the pass accepts every list of answers that agrees with a stuck run, and writes the run's own marks
 abbrev pub StuckIsPass : Type 0
 StuckIsPass = (p : List ℕ) → Accepted p → (es : List Event) → isRun p es ≡ true → Stuck p (reaches fresh es) →
-    (a : List ℕ) → Bytes (size p) a → Agrees p es a → pass p a ≡ record { number = 0; marks = table (λ v. markNumber (reaches fresh es .mark v)) (size p) }
+    (a : List ℕ) → Bytes (size p) a → Agrees p (among es) a → pass p a ≡ record { number = 0; marks = table (λ v. markNumber (reaches fresh es .mark v)) (size p) }
 
 -- I9: some answers agree with every run
 abbrev pub AnswersAgree : Type 0
-AnswersAgree = (p : List ℕ) → Accepted p → (es : List Event) → isRun p es ≡ true → (a : List ℕ) × Bytes (size p) a × Agrees p es a
+AnswersAgree = (p : List ℕ) → Accepted p → (es : List Event) → isRun p es ≡ true → (a : List ℕ) × Bytes (size p) a × Agrees p (among es) a
 
 -- w is below v
 pub data Below (p : List ℕ) (v : ℕ) : ℕ → Type 0 where
