@@ -14,3 +14,4 @@ pub mod RunLaws
 pub mod Stuck
 pub mod Ended
 pub mod PassTally
+pub mod PassTurn
