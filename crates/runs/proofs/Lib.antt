@@ -15,3 +15,4 @@ pub mod Stuck
 pub mod Ended
 pub mod PassTally
 pub mod PassTurn
+pub mod PassRight

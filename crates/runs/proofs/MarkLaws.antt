@@ -2,13 +2,13 @@
 use mathlib.Core.Path.{_≡_, refl, sym, _∙_, ap}
 use mathlib.Core.Bool.{Bool, true, false, not, _&&_, _||_, cond, and-false, or-true}
 use Prim.Native.Nat.{ℕ}
-use borrow.Author.Tests.{eqb-true}
+use borrow.Author.Tests.{eqb-true, not-false}
 use Rattle.lists.specs.Seq.{all}
 use Rattle.lists.specs.Member.{Either, left, right}
 use Rattle.lists.proofs.Logic.{cases, either, clash}
 use Rattle.central.specs.Mark.{Mark, idle, running, offered, committed, failed, turned-down, markNumber, isMark, markOf}
 use Rattle.central.specs.Central.{Central, marked}
-use Rattle.pass.specs.Pass.{Outcome, works, breaks}
+use Rattle.pass.specs.Pass.{Outcome, works, breaks, numberOf}
 use Rattle.runs.specs.Claims.{ended}
 use Rattle.runs.proofs.Finite.{marks, mark-implies}
 
@@ -24,6 +24,10 @@ mark-back turned-down = refl
 pub mark-is : (j m : Mark) → isMark j m ≡ true → m ≡ j
 unfolding isMark
 mark-is j m h = sym (mark-back m) ∙ ap markOf (sym (eqb-true (markNumber j) (markNumber m) h)) ∙ mark-back j
+
+pub idle-number : (m : Mark) → not (isMark idle m) ≡ false → markNumber m ≡ 0
+unfolding markNumber
+idle-number m h = rw (mark-is idle m (not-false _ h))
 
 -- the node has done its part: it is offered, at least
 unfoldable pub isWorked : Mark → Bool
@@ -65,3 +69,11 @@ ended-well s v h n = cases ((either (marked s committed v || marked s failed v) 
 -- the outcome of a node by its mark at the end
 unfoldable pub outcomeOf : Mark → Outcome
 outcomeOf m = cond (isMark failed m) breaks works
+
+pub outcome-sound : (m : Mark) → numberOf (outcomeOf m) ≡ 0
+unfolding numberOf outcomeOf
+outcome-sound m = go (isMark failed m)
+  where
+    go : (b : Bool) → numberOf (cond b breaks works) ≡ 0
+    go true = refl
+    go false = refl
