@@ -14,11 +14,12 @@ use Rattle.lists.proofs.Members.{any-by, any-at, any-map, in-some}
 use Rattle.plan.specs.Plan.{Kind, task, serial, and, or, xor, contingency, conditional, kindNumber, isKind, size, kind, parent, children, others, above, inXor}
 use Rattle.plan.specs.Check.{Accepted}
 use Rattle.plan.proofs.PlanLaws.{rising-children, child-in}
-use Rattle.event.specs.Event.{Code, start, offer, commit, abort, answered-yes, answered-no, pick, down, Event, at, among, appliesBy, applies}
+use Rattle.event.specs.Event.{Code, start, offer, commit, abort, answered-yes, answered-no, pick, down, at, appliesBy, applies}
 use Rattle.guard.specs.Guard.{Guard, one, beforeIn, isFirst, startBy, finishBy, abortBy, finishing, aborting, guardBy, guard, holds, barsBy, bars, barred}
 use Rattle.central.specs.Mark.{idle, running, offered, committed, failed}
-use Rattle.central.specs.Central.{Central, fresh, isYes, isNo, marked, started, reachedBy, mayStart, ofBranch, finishesBy, failsBy, allowedBy, allowed, isRun, reaches}
-use Rattle.runs.proofs.Said.{saidBy, said, history}
+use Rattle.central.specs.Central.{Central, fresh, isYes, isNo, marked, started, reachedBy, mayStart, ofBranch, finishesBy, failsBy, allowedBy, allowed, reaches}
+use Rattle.runs.specs.Claims.{GuardsFollowRule}
+use Rattle.runs.proofs.Said.{saidBy, said, happened}
 use Rattle.runs.proofs.Family.{first-least, before-of, chain-last, chain-before, first-none, not-task, task-or-not}
 use Rattle.runs.proofs.Good.{Good, good-run}
 use Rattle.runs.proofs.BarLaws.{end-by, offer-bar, commit-bar, abort-bar, picked-by, pick-by, down-by, answer-by}
@@ -167,9 +168,8 @@ module _ (p : List ℕ) (ok : Accepted p) (s : Central) (good : Good p s) where
       rw (holds-two (said p s) (at offer v) (map (at pick) (others p v)), any-map (said p s) (at pick) (others p v), a)
       (down-by (any (s .picked) (others p v)) (s .mark v) (λ c. no-bool _ (no-other p s good v (good .commit-picked v a c))))
 
-pub fits : (p : List ℕ) → Accepted p → (es : List Event) → isRun p es ≡ true → (e : Event) → applies p e ≡ true →
-    (not (barred p (among es) e) && holds (among es) (guard p e)) ≡ allowed p (reaches fresh es) e
+pub guards-follow : GuardsFollowRule
 unfolding allowed applies
-fits p ok es h e a =
-    rw (fun-ext (λ f. history p es f h), a)
+guards-follow p ok es h heard is e a =
+    rw (fun-ext is, happened p es h, a)
     (fits-at p ok (reaches fresh es) (good-run p es h) (e .code) (e .node) (ltb-true (e .node) (size p) (search parts)) (search parts))

@@ -16,3 +16,10 @@ pub mod Ended
 pub mod PassTally
 pub mod PassTurn
 pub mod PassRight
+pub mod Answers
+pub mod Local
+pub mod Net
+pub mod Safe
+pub mod Full
+pub mod Main
+pub mod Cases

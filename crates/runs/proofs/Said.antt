@@ -1,15 +1,15 @@
 -- What a state of the central rule says of the events behind it; and that after a run this is just the run's events. Assumes nothing.
-use mathlib.Core.Path.{_≡_, refl, sym, _∙_, ap}
-use mathlib.Core.Bool.{Bool, true, false, not, _&&_, _||_, cond, Bool·beq, and-true, and-false, or-false}
+use mathlib.Core.Path.{_≡_, refl, sym, _∙_, ap, fun-ext}
+use mathlib.Core.Bool.{Bool, true, false, not, _&&_, _||_, cond, Bool·beq, and-false, and-true, or-false}
 use mathlib.Core.List.{List, [], _∷_}
 use Prim.Native.Nat.{ℕ}
 use lib.Dec.{eqb}
-use borrow.Author.Tests.{eqb-true, eq-eqb}
+use borrow.Author.Tests.{eq-eqb, eqb-true}
 use Rattle.lists.specs.Seq.{all, any}
 use Rattle.lists.proofs.Logic.{and-left, and-join, parts}
 use Rattle.lists.proofs.Members.{all-at}
 use Rattle.plan.specs.Plan.{kind, inXor}
-use Rattle.event.specs.Event.{Code, start, offer, commit, abort, answered-yes, answered-no, pick, down, Event, applies, appliesBy, codeNumber, codeOf, sameCode, same, among}
+use Rattle.event.specs.Event.{Code, start, offer, commit, abort, answered-yes, answered-no, pick, down, codeNumber, codeOf, sameCode, Event, same, among, appliesBy, applies}
 use Rattle.central.specs.Mark.{Mark, idle, running, offered, committed, failed, turned-down, markNumber, isMark}
 use Rattle.central.specs.Central.{Answer, none, Central, fresh, markAfter, answerAfter, pickedAfter, after, isYes, isNo, allowedBy, allowed, runFrom, isRun, reaches}
 use Rattle.runs.proofs.Stand.{beq-true, codes, in-codes, code-back}
@@ -119,6 +119,9 @@ said-fresh p f = go (f .code) (inXor p (f .node))
 pub history : (p : List ℕ) (es : List Event) (f : Event) → isRun p es ≡ true → among es f ≡ said p (reaches fresh es) f
 unfolding isRun
 history p es f h = sym (said-from p fresh es f h ∙ (rw (said-fresh p f, or-false)))
+
+pub happened : (p : List ℕ) (es : List Event) → isRun p es ≡ true → among es ≡ said p (reaches fresh es)
+happened p es h = fun-ext (λ f. history p es f h)
 
 pub same-event : (e f : Event) → same e f ≡ true → e ≡ f
 unfolding same sameCode

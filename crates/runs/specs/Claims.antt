@@ -60,12 +60,12 @@ pub data Below (p : List ℕ) (v : ℕ) : ℕ → Type 0 where
 
 -- F1, F2: how a node ends, and the marks that settling it writes, depend on the answers at it and below it alone
 abbrev pub AnswersBelow : Type 0
-AnswersBelow = (p : List ℕ) → Accepted p → (a b : List ℕ) (v : ℕ) → v < size p →
+AnswersBelow = (p a b : List ℕ) (v : ℕ) → v < size p →
     ((w : ℕ) → w < size p → (v ≡ w) ⊎ Below p v w → getD a w 0 ≡ getD b w 0) → (fuel : ℕ) (m : List ℕ) → settle p a fuel v m ≡ settle p b fuel v m
 
 -- F2, F4: settling a node writes marks below it alone
 abbrev pub MarksBelow : Type 0
-MarksBelow = (p : List ℕ) → Accepted p → (a : List ℕ) (fuel v : ℕ) (m : List ℕ) (w : ℕ) → (Below p v w → ⊥) → getD (settle p a fuel v m .marks) w 0 ≡ getD m w 0
+MarksBelow = (p a : List ℕ) (fuel v : ℕ) (m : List ℕ) (w : ℕ) → (Below p v w → ⊥) → getD (settle p a fuel v m .marks) w 0 ≡ getD m w 0
 
 -- how node v ends by the answers a
 unfoldable pub outcomeAt : List ℕ → List ℕ → ℕ → Outcome
