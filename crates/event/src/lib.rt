@@ -1,1 +1,104 @@
-// Definitions only so far.
+// Events of a plan: which are known and apply, at whose site they happen, their bits in a byte, and the tests with which every call on an
+// event begins. What the words mean is specs/; no public function has a `requires`.
+ghost use mathlib.Core.Path.{_≡_};
+ghost use mathlib.Core.Bool.{_&&_};
+ghost use Prim.Native.Nat.{ℕ, _<_, _≤_};
+ghost use lib.Dec.{ltb};
+ghost use Rattle.plan.specs.Plan.{kindOf, xor, isKind, size};
+ghost use Rattle.event.specs.Event.{codeOf, eventOf, appliesBy, applies, known, isCode};
+ghost use Rattle.event.specs.Site.{hostOf};
+ghost use Rattle.event.specs.Bit.{hasBit, withBit};
+ghost use Rattle.event.specs.Valid.{invalid};
+
+// By the code, the parent's kind and the node's own.
+fn applies_by(code: u8, above: u8, kind: u8) -> bool
+    requires { ⌜ (1 ≤ code) × (code ≤ 8) ⌝ }
+    ensures { λ r. ⌜ r ≡ appliesBy (codeOf code) (kindOf kind) (isKind xor (kindOf above)) ⌝ }
+{
+    match code {
+        1 | 3..=4 => true,
+        2 | 7..=8 => above == 5,
+        5..=6 => kind == 7,
+        _ => false,
+    }
+}
+
+fn applies(plan: &[u8], code: u8, v: u8) -> bool
+    requires { ⌜ (1 ≤ code) × (code ≤ 8) ⌝ }
+    requires { ⌜ v < size (now plan) ⌝ }
+    ensures { λ r. ⌜ r ≡ applies (now (plan .entry)) (eventOf code v) ⌝ }
+{
+    applies_by(code, plan::above(plan, v), plan::kind(plan, v))
+}
+
+// The code is 1 to 8 and the node is in the plan.
+pub fn known(plan: &[u8], code: u32, node: u32) -> bool
+    ensures { λ r. ⌜ r ≡ known (now (plan .entry)) code node ⌝ }
+{
+    if code < 1 {
+        return false;
+    }
+    if 8 < code {
+        return false;
+    }
+    (node as usize) < plan::node_count(plan)
+}
+
+// The node at whose site an event happens.
+pub fn host(plan: &[u8], code: u8, v: u8) -> u8
+    ensures { λ r. ⌜ r ≡ hostOf (now (plan .entry)) (eventOf code v) ⌝ }
+{
+    if code == 7 { plan::parent(plan, v) } else { v }
+}
+
+// The bit of a code is set.
+pub fn has_bit(b: u8, code: u8) -> bool
+    ensures { λ r. ⌜ r ≡ hasBit b code ⌝ }
+{
+    if code < 1 {
+        return false;
+    }
+    if 8 < code {
+        return false;
+    }
+    (b >> (code - 1)) % 2 == 1
+}
+
+// The byte with the bit of a code set.
+pub fn with_bit(b: u8, code: u8) -> u8
+    ensures { λ r. ⌜ r ≡ withBit b code ⌝ }
+{
+    if has_bit(b, code) {
+        return b;
+    }
+    if code < 1 {
+        return b;
+    }
+    if 8 < code {
+        return b;
+    }
+    b + (1 << (code - 1))
+}
+
+// The number of the first test that fails, and 0 where none does. `fits`: the lent lengths are right; `sited`: the site is in the plan.
+pub fn validate(plan: &[u8], fits: bool, sited: bool, code: u32, node: u32) -> u8
+    ensures { λ r. ⌜ r ≡ invalid (now (plan .entry)) fits sited code node ⌝ }
+{
+    let n = plan::check(plan);
+    if n != 0 {
+        return n;
+    }
+    if !fits {
+        return 7;
+    }
+    if !sited {
+        return 8;
+    }
+    if !known(plan, code, node) {
+        return 8;
+    }
+    if !applies(plan, code as u8, node as u8) {
+        return 9;
+    }
+    0
+}

@@ -1,1 +1,2 @@
--- Laws.
+-- Laws that the proofs here and in upper crates cite.
+pub mod CodeLaws

@@ -1,0 +1,108 @@
+-- What the functions of this crate use of specs/Simulation.antt: which part of the state a step touches, and each of its answers. Assumes nothing.
+use mathlib.Core.Path.{_≡_, refl, sym, ap, ap₂, _∙_}
+use mathlib.Core.Bool.{Bool, true, false, cond, not, _&&_}
+use mathlib.Core.List.{List, _++_}
+use Prim.Native.Nat.{ℕ, _+_, _*_, _≤_, _<_}
+use native.Mathlib.Nat.{mul-le-mul-right, suc-mul}
+use native.Mathlib.Omega.{arith}
+use borrow.Author.Tests.{eq-eqb, ne-eqb, eqb-true, eqb-false, not-false}
+use lib.Dec.{eqb, ltb}
+use lib.ListN.{length, getD, take, drop, set, length-take, length-drop, take-append-drop}
+use lib.Seq.{getD-take, getD-drop, take-set-le, take-set-lt, drop-set-lt, drop-set-add}
+use Rattle.lists.proofs.Logic.{cases, decided}
+use Rattle.plan.specs.Plan.{size}
+use Rattle.plan.specs.Check.{checkNumber, Accepted}
+use Rattle.event.specs.Event.{Event, at, eventOf, codeOf}
+use Rattle.event.specs.Site.{own, siteOf}
+use Rattle.event.specs.Bit.{hasBit, withBit}
+use Rattle.event.specs.Valid.{invalid, Valid}
+use Rattle.event.proofs.ValidLaws.{valid}
+use Rattle.guard.specs.Guard.{guard, holds, barred}
+use Rattle.site.specs.Row.{heardIn, heard, hear}
+use Rattle.site.specs.Verdict.{verdictNumber, verdictSite, refusalNumber, refusalSite}
+use Rattle.site.specs.Step.{Stepped, stepped, siteAt, stepInvalid, decide, stepOf}
+use Rattle.site.specs.declared.Verdict.{Verdict}
+use Rattle.simulation.specs.Simulation.{rowOf, withRow, Step, event, message, Reply, reply, stateFits, eventBy, happen, tell, simulate}
+
+-- row q of n bytes ends where the next begins
+pub row-below : (n j k : ℕ) → j < k → j * n + n ≤ k * n
+row-below n j k h = rw (← suc-mul j n) (mul-le-mul-right n h)
+
+-- a row put back changes nothing
+pub with-same : (p st : List ℕ) (q : ℕ) → withRow p st q (rowOf p st q) ≡ st
+unfolding withRow rowOf
+with-same p st q = ap (λ (l : List ℕ). take (q * size p) st ++ l) (take-append-drop (size p) (drop (q * size p) st)) ∙ take-append-drop (q * size p) st
+
+pub fits-told : (p st : List ℕ) → stateFits p (own p) st ≡ true → length st ≡ size p * size p
+unfolding stateFits own
+fits-told p st h = eqb-true (length st) (size p * size p) h
+
+-- a site's row of a fitting state is one byte a node
+pub row-length : (p st : List ℕ) (q : ℕ) → stateFits p (own p) st ≡ true → q < size p → length (rowOf p st q) ≡ size p
+unfolding rowOf
+row-length p st q h l =
+    let e = fits-told p st h in
+    let r = row-below (size p) q (size p) l in
+    let d = length-drop (q * size p) st in
+    omega (arith, length-take (size p) (drop (q * size p) st))
+
+-- every verdict of `decide` names the event's site
+decided-site : (p : List ℕ) (code node : ℕ) (row : List ℕ) → verdictSite (decide p code node row .verdict) ≡ siteAt p code node
+unfolding decide verdictSite refusalSite
+decided-site p code node row = cases (decided (barred p (heard row) (eventOf code node))) (λ e. rw e)
+    (λ e. cases (decided (holds (heard row) (guard p (eventOf code node)))) (λ f. rw (e, f)) (λ f. rw (e, f)))
+
+-- THE EVENT HAPPENS
+module _ (p st : List ℕ) (code node : ℕ) where
+  pub happen-refused : (n : ℕ) → n ≡ invalid p (stateFits p (own p) st) true code node → (n ≡ 0 → ⊥) → happen p (own p) st code node ≡ reply n 0 st
+  unfolding happen
+  happen-refused n e h = let f = ne-eqb (invalid p (stateFits p (own p) st) true code node) 0 (λ z. h (e ∙ z)) in rw (f, e)
+
+  module _ (q : ℕ) (there : q ≡ siteAt p code node) (fits : stateFits p (own p) st ≡ true) (inside : q < size p) where
+    same-tests : stepInvalid p code node (rowOf p st q) ≡ invalid p (stateFits p (own p) st) true code node
+    unfolding stepInvalid
+    same-tests = rw (fits, eq-eqb (length (rowOf p st q)) (size p) (row-length p st q fits inside))
+
+    abbrev result : Stepped → Reply
+    result s = reply (verdictNumber (s .verdict)) (verdictSite (s .verdict)) (withRow p st q (s .row))
+
+    valid-happens : invalid p (stateFits p (own p) st) true code node ≡ 0 →
+        happen p (own p) st code node ≡ reply (verdictNumber (decide p code node (rowOf p st q) .verdict)) q (withRow p st q (decide p code node (rowOf p st q) .row))
+    unfolding happen eventBy stepOf
+    valid-happens n = let m : stepInvalid p code node (rowOf p st q) ≡ 0 = same-tests ∙ n in rw (n, ← there, m)
+
+    -- the site's own step on its row decides all
+    happens : happen p (own p) st code node ≡ result (stepOf p code node (rowOf p st q))
+    unfolding stepOf verdictNumber verdictSite refusalNumber refusalSite
+    happens = cases (decided (eqb (stepInvalid p code node (rowOf p st q)) 0))
+        (λ z. let n : invalid p (stateFits p (own p) st) true code node ≡ 0 = sym same-tests ∙ eqb-true _ 0 z in
+        rw z (valid-happens n ∙ ap (λ k. reply (verdictNumber (decide p code node (rowOf p st q) .verdict)) k (withRow p st q (decide p code node (rowOf p st q) .row)))
+        (there ∙ sym (decided-site p code node (rowOf p st q)))))
+        (λ z. rw z (happen-refused _ same-tests (eqb-false _ 0 z) ∙ ap (λ s. reply (stepInvalid p code node (rowOf p st q)) 0 s) (sym (with-same p st q))))
+
+    pub happen-stepped : (row : List ℕ) (v : Verdict) → stepOf p code node (rowOf p st q) ≡ stepped row v →
+        happen p (own p) st code node ≡ reply (verdictNumber v) (verdictSite v) (withRow p st q row)
+    happen-stepped row v h = happens ∙ ap result h
+
+-- A MESSAGE
+-- one byte of row q
+module _ (p st : List ℕ) (q v : ℕ) (node : v < size p) where
+  pub byte-at : getD (rowOf p st q) v 0 ≡ getD st (q * size p + v) 0
+  unfolding rowOf
+  byte-at = getD-take (size p) (drop (q * size p) st) v 0 node ∙ getD-drop (q * size p) st v 0
+
+  set-parts : (n a x : ℕ) → v < n → take a st ++ (set (take n (drop a st)) v x ++ drop n (drop a st)) ≡ set st (a + v) x
+  set-parts n a x h =
+      let s : List ℕ = set st (a + v) x in
+      let front : take n (drop a s) ≡ set (take n (drop a st)) v x = ap (λ (l : List ℕ). take n l) (drop-set-add a st v x) ∙ take-set-lt n (drop a st) v x h in
+      let back : drop n (drop a s) ≡ drop n (drop a st) = ap (λ (l : List ℕ). drop n l) (drop-set-add a st v x) ∙ drop-set-lt n (drop a st) v x h in
+      sym (sym (take-append-drop a s) ∙ ap₂ _++_ (take-set-le a st (a + v) x (omega arith)) (sym (take-append-drop n (drop a s)) ∙ ap₂ _++_ front back))
+
+  -- a byte of row q set is a byte of the state set
+  pub row-set : (x : ℕ) → withRow p st q (set (rowOf p st q) v x) ≡ set st (q * size p + v) x
+  unfolding withRow rowOf
+  row-set x = set-parts (size p) (q * size p) x node
+
+  pub row-hear : (code : ℕ) → withRow p st q (hear (rowOf p st q) code v) ≡ set st (q * size p + v) (withBit (getD st (q * size p + v) 0) code)
+  unfolding hear
+  row-hear code = rw byte-at (row-set (withBit (getD st (q * size p + v) 0) code))

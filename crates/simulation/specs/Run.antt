@@ -1,0 +1,66 @@
+-- The functions of this crate as values: one step, the record, and a list of steps in frames (rules G3, H7, I and J1), for the layout in which
+-- every node has its own row. Each is the answer and every lent byte afterwards. Definitions only.
+use mathlib.Core.Bool.{Bool, cond, _&&_, not}
+use mathlib.Core.List.{List, [], _∷_}
+use Prim.Native.Nat.{ℕ, zero, suc, _+_, _*_, _/_, _%_}
+use lib.Dec.{eqb}
+use lib.ListN.{length, getD}
+use Rattle.plan.specs.Plan.{size}
+use Rattle.plan.specs.Check.{checkNumber}
+use Rattle.event.specs.Site.{own}
+use Rattle.pass.specs.Record.{Record, recordOf}
+use Rattle.simulation.specs.Simulation.{Step, stepFrom, Reply, simulate, stateFits, replayFrom, numbersFrom, endMarks}
+
+-- one step, as three numbers
+unfoldable pub simulateOf : List ℕ → ℕ → ℕ → ℕ → List ℕ → Reply
+simulateOf p code node site st = simulate p (own p) st (stepFrom code node site)
+
+-- 1 to 6, then 7 where a length is wrong, else 0
+unfoldable pub fitNumber : List ℕ → Bool → ℕ
+fitNumber p fits = cond (not (eqb (checkNumber p) 0)) (checkNumber p) (cond (not fits) 7 0)
+
+-- the record into two buffers
+pub record Recorded : Type 0 where
+  pub number : ℕ
+  pub marks : List ℕ
+  pub classes : List ℕ
+
+abbrev pub recorded : ℕ → List ℕ → List ℕ → Recorded
+recorded n m c = record { number = n; marks = m; classes = c }
+
+unfoldable pub recordNumber : List ℕ → List ℕ → List ℕ → List ℕ → ℕ
+recordNumber p st m c = fitNumber p (stateFits p (own p) st && eqb (length m) (size p) && eqb (length c) (size p))
+
+abbrev written : Record → Recorded
+written r = recorded 0 (r .marks) (r .classes)
+
+unfoldable pub recordInto : List ℕ → List ℕ → List ℕ → List ℕ → Recorded
+recordInto p st m c =
+    cond (not (eqb (recordNumber p st m c) 0)) (recorded (recordNumber p st m c) m c)
+    (written (recordOf p (endMarks p (own p) st)))
+
+-- J1: the steps of n frames of three bytes, from byte i on
+unfoldable pub stepsFrom : ℕ → List ℕ → ℕ → List Step
+stepsFrom zero bs i = []
+stepsFrom (suc n) bs i = stepFrom (getD bs i 0) (getD bs (i + 1) 0) (getD bs (i + 2) 0) ∷ stepsFrom n bs (i + 3)
+
+unfoldable pub stepsOf : List ℕ → List Step
+stepsOf bs = stepsFrom (length bs / 3) bs 0
+
+-- a list of steps: the number of the call, the state and the steps' numbers
+pub record Ran : Type 0 where
+  pub number : ℕ
+  pub state : List ℕ
+  pub numbers : List ℕ
+
+abbrev pub ran : ℕ → List ℕ → List ℕ → Ran
+ran n st ns = record { number = n; state = st; numbers = ns }
+
+-- 7: the state is not nodes times nodes, the frames are not whole, or there is not one byte a frame for the numbers
+unfoldable pub runNumber : List ℕ → List ℕ → List ℕ → List ℕ → ℕ
+runNumber p bs st ns = fitNumber p (stateFits p (own p) st && eqb (length bs % 3) 0 && eqb (length ns) (length bs / 3))
+
+unfoldable pub runOf : List ℕ → List ℕ → List ℕ → List ℕ → Ran
+runOf p bs st ns =
+    cond (not (eqb (runNumber p bs st ns) 0)) (ran (runNumber p bs st ns) st ns)
+    (ran 0 (replayFrom p (own p) st (stepsOf bs)) (numbersFrom p (own p) st (stepsOf bs)))

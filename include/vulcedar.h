@@ -1,0 +1,115 @@
+/*
+ * Vulcedar: jobs that follow a plan, decided by the sites that do the work.
+ *
+ * A plan is a tree of tasks and blocks. Every node has a site; a site keeps one row of bytes, what it has heard, and
+ * decides the events of its node from that row alone. This header is all that a host needs; docs/GUIDE.md shows how a
+ * host uses it, docs/RULES.md has every rule.
+ *
+ * Plan bytes: two for each node, kind and parent number; nodes are numbered from 0 in the order of the bytes.
+ *   kinds: 01 task, 02 serial, 03 and, 04 or, 05 xor, 06 contingency, 07 conditional
+ *   node 0 is the root, its parent byte is ff; any other parent number is below the node's own
+ *   1 to 160 nodes; a task has no children, a conditional 2, any other block 1 to 32; depth at most 32
+ *
+ * Events: 1 start, 2 offer, 3 commit, 4 abort, 5 yes, 6 no, 7 pick, 8 turned down.
+ *   offer, pick and turned down are for children of an xor, yes and no for a conditional, the others for every node
+ *   pick of a node happens at the site of its parent, every other event at the site of its own node
+ *
+ * A row has one byte a node. Code n is bit n-1 of the byte of the event's node. A fresh row is zeros.
+ *
+ * Marks: 0 not started, 1 running, 2 offered, 3 committed, 4 failed, 5 turned down.
+ * Retention classes: 0 none, 1 aired (a year), 2 draft (a week), 3 log only (one day).
+ *
+ * Results are 32 bits:
+ *   bits 0-7    the number: 0 passed, else why the call was refused (below)
+ *   bits 8-15   the event's site, where an event passed or was refused with 10 or 11; else 0
+ *   bits 16-31  a value where the function has one; else 0
+ *
+ * Numbers, with the lowest that fits answered first unless a function says otherwise:
+ *    1  plan length odd, 0 or above 320            8  code not 1 to 8, or node or site not in the plan
+ *    2  a kind not 01 to 07                        9  the event does not apply to the node
+ *    3  root's parent not ff, or another's not     10  barred: it happened already, or what rules it out did
+ *       below its own number                       11  the guard does not hold: what it waits for is not heard
+ *    4  a parent is a task                         12  message of an event that did not happen (simulation only)
+ *    5  wrong number of children                   13  pass: answer of a task or conditional not 1 or 2
+ *    6  depth above 32                             14  pass: an xor's answer is no offering child, or 0 while one
+ *    7  a buffer has a wrong length                    offers
+ *
+ * A refused call leaves every byte of every buffer as it was. No function keeps or allocates anything; each may be
+ * called from any thread. Buffers of one call must not overlap, and nobody else may write them during the call. A
+ * pointer must not be null; for a length of 0 any pointer will do.
+ */
+#ifndef VULCEDAR_H
+#define VULCEDAR_H
+
+#include <stddef.h>
+#include <stdint.h>
+
+#ifdef __cplusplus
+extern "C" {
+#endif
+
+#define VULCEDAR_NUMBER(r) ((uint32_t)(r) & 0xffu)
+#define VULCEDAR_SITE(r) ((uint32_t)(r) >> 8 & 0xffu)
+#define VULCEDAR_VALUE(r) ((uint32_t)(r) >> 16)
+
+/* The site of vulcedar_simulate that stands for "the event happens". */
+#define VULCEDAR_HAPPENS 0xffu
+
+/* A guard never has more bytes than this. */
+#define VULCEDAR_GUARD_MOST 290u
+
+/* Checks a plan: 0, or 1 to 6. */
+uint32_t vulcedar_check(const uint8_t *plan, size_t plan_len);
+
+/*
+ * Writes what an event waits for to the front of buf: the number of clauses; for each clause its number of events, then
+ * code and node of each. A clause holds if one of its events is heard, the guard if all its clauses do. The value is the
+ * guard's length; the bytes of buf behind it are left. 1 to 6, 8, 9, then 7 if buf is too short for this guard.
+ */
+uint32_t vulcedar_guard(const uint8_t *plan, size_t plan_len, uint32_t code, uint32_t node, uint8_t *buf, size_t buf_len);
+
+/*
+ * An event wants to happen at its site. row is the row of that site: of the node itself, for a pick that of the node's
+ * parent. If it passes, its bit is set in row; store the row before you tell anyone. 1 to 11.
+ */
+uint32_t vulcedar_step(const uint8_t *plan, size_t plan_len, uint32_t code, uint32_t node, uint8_t *row, size_t row_len);
+
+/*
+ * A site hears of an event: its bit is set in row, the row of the site that hears. A repeat changes nothing. Whether the
+ * message is true is for the host to vouch for. 1 to 9.
+ */
+uint32_t vulcedar_hear(const uint8_t *plan, size_t plan_len, uint32_t code, uint32_t node, uint8_t *row, size_t row_len);
+
+/*
+ * The single pass: from one answer byte a node to every node's mark. Read at a task: 1 works, 2 fails; at a conditional:
+ * 1 yes, 2 no; at an xor: the place, from 1, of the picked child, 0 if none offers; read only where the pass gets to.
+ * 1 to 7, then the first of 13 and 14 that is met. marks is written only on 0.
+ */
+uint32_t vulcedar_pass(const uint8_t *plan, size_t plan_len, const uint8_t *answers, size_t answers_len, uint8_t *marks,
+                       size_t marks_len);
+
+/*
+ * A step of a simulation of all sites. state has the rows of all sites one after another, nodes times nodes bytes, zeros
+ * at first. site 0xff: the event happens, at its own site; any other site hears of it, refused with 12 unless it
+ * happened. 1 to 12.
+ */
+uint32_t vulcedar_simulate(const uint8_t *plan, size_t plan_len, uint32_t code, uint32_t node, uint32_t site, uint8_t *state,
+                           size_t state_len);
+
+/* The record of a simulation: every node's mark by its own site's row, and its class. 1 to 7. */
+uint32_t vulcedar_record(const uint8_t *plan, size_t plan_len, const uint8_t *state, size_t state_len, uint8_t *marks,
+                         size_t marks_len, uint8_t *classes, size_t classes_len);
+
+/*
+ * The central rule, which knows every mark: one byte a node in marks, and in notes the bits of codes 5, 6 and 7 as in a
+ * row. Both are zeros at first. Value 1: the rule allows the event, and marks and notes are advanced by it; value 0: it
+ * does not, and both are left. 1 to 9. A host can replay a log against it.
+ */
+uint32_t vulcedar_central(const uint8_t *plan, size_t plan_len, uint32_t code, uint32_t node, uint8_t *marks, size_t marks_len,
+                          uint8_t *notes, size_t notes_len);
+
+#ifdef __cplusplus
+}
+#endif
+
+#endif
