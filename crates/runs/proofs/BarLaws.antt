@@ -6,8 +6,8 @@ use Rattle.lists.specs.Seq.{all}
 use Rattle.lists.proofs.Logic.{no-bool}
 use Rattle.lists.proofs.Members.{all-at}
 use Rattle.event.specs.Event.{at}
+use Rattle.event.proofs.BitLaws.{beq-true}
 use Rattle.central.specs.Mark.{Mark, idle, running, offered, committed, failed, turned-down, markNumber, isMark}
-use Rattle.runs.proofs.Stand.{beq-true}
 use Rattle.runs.proofs.Finite.{marks, in-marks}
 
 -- to offer, to commit outside an xor, and to abort: b says that the event is barred, g that its guard holds, f that the central rule's test does

@@ -7,9 +7,9 @@ use Rattle.lists.specs.Seq.{all}
 use Rattle.lists.specs.Member.{In, here, there}
 use Rattle.lists.proofs.Members.{all-at}
 use Rattle.event.specs.Event.{Code}
+use Rattle.event.proofs.CodeLaws.{codes, in-codes}
 use Rattle.central.specs.Mark.{Mark, idle, running, offered, committed, failed, turned-down}
 use Rattle.central.specs.Central.{Answer, none, said-yes, said-no}
-use Rattle.runs.proofs.Stand.{codes, in-codes}
 
 -- all there are
 unfoldable pub marks : List Mark

@@ -1,5 +1,4 @@
 -- Laws of runs, in the order in which they build on one another.
-pub mod Stand
 pub mod Finite
 pub mod Said
 pub mod Family

@@ -12,9 +12,9 @@ use Rattle.lists.proofs.Members.{any-by, any-at, any-append, in-up}
 use Rattle.lists.proofs.Points.{in-left, in-right, map-in}
 use Rattle.plan.specs.Plan.{size}
 use Rattle.event.specs.Event.{Event, at, same, among}
+use Rattle.event.proofs.CodeLaws.{codes, in-codes}
 use Rattle.central.specs.Central.{Central, fresh, after, allowed, runFrom, isRun, reaches}
 use Rattle.runs.specs.Claims.{Stuck, RunsEnd}
-use Rattle.runs.proofs.Stand.{codes, in-codes}
 use Rattle.runs.proofs.Count.{allowed-node, count}
 
 run-append : (p : List ℕ) (s : Central) (es fs : List Event) → runFrom p s (es ++ fs) ≡ (runFrom p s es && runFrom p (reaches s es) fs)

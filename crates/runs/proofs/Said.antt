@@ -10,9 +10,10 @@ use Rattle.lists.proofs.Logic.{and-left, and-join, parts}
 use Rattle.lists.proofs.Members.{all-at}
 use Rattle.plan.specs.Plan.{kind, inXor}
 use Rattle.event.specs.Event.{Code, start, offer, commit, abort, answered-yes, answered-no, pick, down, codeNumber, codeOf, sameCode, Event, same, among, appliesBy, applies}
+use Rattle.event.proofs.CodeLaws.{codes, in-codes, code-back}
+use Rattle.event.proofs.BitLaws.{beq-true}
 use Rattle.central.specs.Mark.{Mark, idle, running, offered, committed, failed, turned-down, markNumber, isMark}
 use Rattle.central.specs.Central.{Answer, none, Central, fresh, markAfter, answerAfter, pickedAfter, after, isYes, isNo, allowedBy, allowed, runFrom, isRun, reaches}
-use Rattle.runs.proofs.Stand.{beq-true, codes, in-codes, code-back}
 use Rattle.runs.proofs.Finite.{marks, answers, bools, tested, tested-at, implied}
 
 -- x: the node is a child of an xor
