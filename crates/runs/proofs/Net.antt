@@ -9,8 +9,8 @@ use Rattle.event.specs.Site.{Layout, siteOf}
 use Rattle.guard.specs.Guard.{guard, holds, barred}
 
 pub data Move : Type 0 where
-  happen : Event → Move
-  tell : Event → ℕ → Move
+  occur : Event → Move
+  relay : Event → ℕ → Move
 
 unfoldable pub learn : (ℕ → Event → Bool) → ℕ → Event → ℕ → Event → Bool
 learn rows q e r f = (eqb r q && same e f) || rows r f
@@ -18,16 +18,16 @@ learn rows q e r f = (eqb r q && same e f) || rows r f
 unfoldable pub passes : List ℕ → Layout → (ℕ → Event → Bool) → Event → Bool
 passes p lay rows e = applies p e && not (barred p (rows (siteOf p lay e)) e) && holds (rows (siteOf p lay e)) (guard p e)
 
-unfoldable pub told : List ℕ → Layout → (ℕ → Event → Bool) → Event → ℕ → Bool
-told p lay rows e q = applies p e && ltb q (lay .rows) && rows (siteOf p lay e) e
+unfoldable pub relayed : List ℕ → Layout → (ℕ → Event → Bool) → Event → ℕ → Bool
+relayed p lay rows e q = applies p e && ltb q (lay .rows) && rows (siteOf p lay e) e
 
 unfoldable pub stepped : List ℕ → Layout → (ℕ → Event → Bool) → Move → ℕ → Event → Bool
-stepped p lay rows (happen e) = cond (passes p lay rows e) (learn rows (siteOf p lay e) e) rows
-stepped p lay rows (tell e q) = cond (told p lay rows e q) (learn rows q e) rows
+stepped p lay rows (occur e) = cond (passes p lay rows e) (learn rows (siteOf p lay e) e) rows
+stepped p lay rows (relay e q) = cond (relayed p lay rows e q) (learn rows q e) rows
 
 unfoldable pub passedBy : List ℕ → Layout → (ℕ → Event → Bool) → Move → List Event
-passedBy p lay rows (happen e) = cond (passes p lay rows e) (e ∷ []) []
-passedBy p lay rows (tell e q) = []
+passedBy p lay rows (occur e) = cond (passes p lay rows e) (e ∷ []) []
+passedBy p lay rows (relay e q) = []
 
 -- the events that pass in a list of steps, in order
 unfoldable pub passedIn : List ℕ → Layout → (ℕ → Event → Bool) → List Move → List Event

@@ -21,7 +21,7 @@ use Rattle.central.specs.Central.{fresh, allowed, runFrom, isRun, reaches}
 use Rattle.runs.proofs.Said.{same-event}
 use Rattle.runs.proofs.Fits.{guards-follow}
 use Rattle.runs.proofs.RunLaws.{run-more, among-more}
-use Rattle.runs.proofs.Net.{Move, happen, tell, learn, passes, told, stepped, passedBy, passedIn, steppedAll, silence}
+use Rattle.runs.proofs.Net.{Move, occur, relay, learn, passes, relayed, stepped, passedBy, passedIn, steppedAll, silence}
 
 -- what bars an event happens at the event's own site
 bars-host : (p : List ℕ) (c : Code) (v : ℕ) {f : Event} → In f (barsBy p c v) → hostOf p f ≡ hostBy c v (parent p v)
@@ -87,8 +87,8 @@ module _ (p : List ℕ) (ok : Accepted p) (lay : Layout) (es : List Event) (rows
         (λ b. rw (b, eq-eqb (siteOf p lay f) (siteOf p lay e) (ap (siteOf p lay) (sym (same-event e f b)))));
   }
 
-  hears : (e : Event) (q : ℕ) → told p lay rows e q ≡ true → InStep p lay es (learn rows q e)
-  unfolding learn told
+  hears : (e : Event) (q : ℕ) → relayed p lay rows e q ≡ true → InStep p lay es (learn rows q e)
+  unfolding learn relayed
   hears e q h = record {
     run = sound .run;
     true-to = λ r f k. cases ((either (eqb r q && same e f) (rows r f)) .0 k)
@@ -99,14 +99,14 @@ module _ (p : List ℕ) (ok : Accepted p) (lay : Layout) (es : List Event) (rows
 
   pub step-on : (t : Move) → InStep p lay (es ++ passedBy p lay rows t) (stepped p lay rows t)
   unfolding passedBy stepped
-  step-on (happen e) = go (passes p lay rows e) refl
+  step-on (occur e) = go (passes p lay rows e) refl
     where
       go : (b : Bool) → passes p lay rows e ≡ b → InStep p lay (es ++ cond b (e ∷ []) []) (cond b (learn rows (siteOf p lay e) e) rows)
       go true h = happens e h
       go false h = rw append-nil sound
-  step-on (tell e q) = rw append-nil (go (told p lay rows e q) refl)
+  step-on (relay e q) = rw append-nil (go (relayed p lay rows e q) refl)
     where
-      go : (b : Bool) → told p lay rows e q ≡ b → InStep p lay es (cond b (learn rows q e) rows)
+      go : (b : Bool) → relayed p lay rows e q ≡ b → InStep p lay es (cond b (learn rows q e) rows)
       go true h = hears e q h
       go false h = sound
 

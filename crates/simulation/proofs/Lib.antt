@@ -1,3 +1,4 @@
 -- Laws that the proofs here and in upper crates cite.
 pub mod CodeLaws
 pub mod View
+pub mod StepLaws
