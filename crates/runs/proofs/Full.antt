@@ -19,7 +19,7 @@ use Rattle.runs.proofs.Said.{same-event, same-self}
 use Rattle.runs.proofs.Family.{xor-child}
 use Rattle.runs.proofs.Fits.{guards-follow}
 use Rattle.runs.proofs.RunLaws.{reaches-append, among-more}
-use Rattle.runs.proofs.Net.{Move, occur, relay, learn, passes, relayed, stepped, passedBy, passedIn, steppedAll, silence}
+use Rattle.runs.proofs.Net.{Move, occur, relay, learn, passes, relayed, moved, passedBy, passedIn, movedAll, silence}
 use Rattle.runs.proofs.Safe.{InStep, step-on, steps-on}
 
 -- each event happens, and every site is told of it before the next
@@ -28,27 +28,27 @@ script lay [] = []
 script lay (e ∷ es) = occur e ∷ (map (relay e) (upFrom 0 (lay .rows)) ++ script lay es)
 
 module _ (p : List ℕ) (lay : Layout) where
-  pub passedIn-append : (rows : ℕ → Event → Bool) (ts us : List Move) → passedIn p lay rows (ts ++ us) ≡ passedIn p lay rows ts ++ passedIn p lay (steppedAll p lay rows ts) us
-  unfolding passedIn steppedAll
+  pub passedIn-append : (rows : ℕ → Event → Bool) (ts us : List Move) → passedIn p lay rows (ts ++ us) ≡ passedIn p lay rows ts ++ passedIn p lay (movedAll p lay rows ts) us
+  unfolding passedIn movedAll
   passedIn-append rows [] us = refl
-  passedIn-append rows (t ∷ ts) us = rw (passedIn-append (stepped p lay rows t) ts us, append-assoc)
+  passedIn-append rows (t ∷ ts) us = rw (passedIn-append (moved p lay rows t) ts us, append-assoc)
 
-  pub stepped-append : (rows : ℕ → Event → Bool) (ts us : List Move) → steppedAll p lay rows (ts ++ us) ≡ steppedAll p lay (steppedAll p lay rows ts) us
-  unfolding steppedAll
-  stepped-append rows [] us = refl
-  stepped-append rows (t ∷ ts) us = stepped-append (stepped p lay rows t) ts us
+  pub moved-append : (rows : ℕ → Event → Bool) (ts us : List Move) → movedAll p lay rows (ts ++ us) ≡ movedAll p lay (movedAll p lay rows ts) us
+  unfolding movedAll
+  moved-append rows [] us = refl
+  moved-append rows (t ∷ ts) us = moved-append (moved p lay rows t) ts us
 
   passedIn-relays : (rows : ℕ → Event → Bool) (e : Event) (qs : List ℕ) → passedIn p lay rows (map (relay e) qs) ≡ []
   unfolding passedIn passedBy
   passedIn-relays rows e [] = refl
-  passedIn-relays rows e (q ∷ qs) = passedIn-relays (stepped p lay rows (relay e q)) e qs
+  passedIn-relays rows e (q ∷ qs) = passedIn-relays (moved p lay rows (relay e q)) e qs
 
   learn-keeps : (rows : ℕ → Event → Bool) (q : ℕ) (e : Event) (r : ℕ) (f : Event) → rows r f ≡ true → learn rows q e r f ≡ true
   unfolding learn
   learn-keeps rows q e r f h = rw (h, or-true)
 
-  step-keeps : (rows : ℕ → Event → Bool) (t : Move) (r : ℕ) (f : Event) → rows r f ≡ true → stepped p lay rows t r f ≡ true
-  unfolding stepped
+  step-keeps : (rows : ℕ → Event → Bool) (t : Move) (r : ℕ) (f : Event) → rows r f ≡ true → moved p lay rows t r f ≡ true
+  unfolding moved
   step-keeps rows (occur e) r f h = go (passes p lay rows e)
     where
       go : (b : Bool) → cond b (learn rows (siteOf p lay e) e) rows r f ≡ true
@@ -60,23 +60,23 @@ module _ (p : List ℕ) (lay : Layout) where
       go true = learn-keeps rows q e r f h
       go false = h
 
-  steps-keep : (rows : ℕ → Event → Bool) (ts : List Move) (r : ℕ) (f : Event) → rows r f ≡ true → steppedAll p lay rows ts r f ≡ true
-  unfolding steppedAll
+  steps-keep : (rows : ℕ → Event → Bool) (ts : List Move) (r : ℕ) (f : Event) → rows r f ≡ true → movedAll p lay rows ts r f ≡ true
+  unfolding movedAll
   steps-keep rows [] r f h = h
-  steps-keep rows (t ∷ ts) r f h = steps-keep (stepped p lay rows t) ts r f (step-keeps rows t r f h)
+  steps-keep rows (t ∷ ts) r f h = steps-keep (moved p lay rows t) ts r f (step-keeps rows t r f h)
 
-  relay-heard : (rows : ℕ → Event → Bool) (e : Event) (q : ℕ) → q < lay .rows → applies p e ≡ true → rows (siteOf p lay e) e ≡ true → stepped p lay rows (relay e q) q e ≡ true
-  unfolding stepped relayed learn
+  relay-heard : (rows : ℕ → Event → Bool) (e : Event) (q : ℕ) → q < lay .rows → applies p e ≡ true → rows (siteOf p lay e) e ≡ true → moved p lay rows (relay e q) q e ≡ true
+  unfolding moved relayed learn
   relay-heard rows e q l a h = rw (a, lt-ltb q (lay .rows) l, h, eq-eqb q q refl, same-self e)
 
   relays-heard : (rows : ℕ → Event → Bool) (e : Event) {q : ℕ} {qs : List ℕ} → In q qs → q < lay .rows → applies p e ≡ true → rows (siteOf p lay e) e ≡ true →
-      steppedAll p lay rows (map (relay e) qs) q e ≡ true
-  unfolding steppedAll
+      movedAll p lay rows (map (relay e) qs) q e ≡ true
+  unfolding movedAll
   relays-heard rows e {q} (here {y = y} {xs = qs} i) l a h =
-      steps-keep (stepped p lay rows (relay e y)) (map (relay e) qs) q e
-      (subst (λ (r : ℕ). stepped p lay rows (relay e r) q e ≡ true) i (relay-heard rows e q l a h))
+      steps-keep (moved p lay rows (relay e y)) (map (relay e) qs) q e
+      (subst (λ (r : ℕ). moved p lay rows (relay e r) q e ≡ true) i (relay-heard rows e q l a h))
   relays-heard rows e {q} (there {y = y} {xs = qs} i) l a h =
-      relays-heard (stepped p lay rows (relay e y)) e i l a (step-keeps rows (relay e y) (siteOf p lay e) e h)
+      relays-heard (moved p lay rows (relay e y)) e i l a (step-keeps rows (relay e y) (siteOf p lay e) e h)
 
 -- the host of an event that applies is in the plan
 pub host-in : (p : List ℕ) → Accepted p → (e : Event) → applies p e ≡ true → hostOf p e < size p
@@ -120,28 +120,28 @@ module _ (p : List ℕ) (ok : Accepted p) (lay : Layout) (housed : Housed p lay)
     happened = rw (allowed-pass hs rows sound heard e allow)
 
     rows-then : ℕ → Event → Bool
-    rows-then = steppedAll p lay (stepped p lay rows (occur e)) (map (relay e) (upFrom 0 (lay .rows)))
+    rows-then = movedAll p lay (moved p lay rows (occur e)) (map (relay e) (upFrom 0 (lay .rows)))
 
-    sound-at : InStep p lay (hs ++ (e ∷ [])) (stepped p lay rows (occur e))
+    sound-at : InStep p lay (hs ++ (e ∷ [])) (moved p lay rows (occur e))
     sound-at = rw happened at (step-on p ok lay hs rows sound (occur e))
 
     sound-then : InStep p lay (hs ++ (e ∷ [])) rows-then
     unfolding rows-then
     sound-then =
-        rw (passedIn-relays p lay (stepped p lay rows (occur e)) e (upFrom 0 (lay .rows)), append-nil) at
-        (steps-on p ok lay (hs ++ (e ∷ [])) (stepped p lay rows (occur e)) (map (relay e) (upFrom 0 (lay .rows))) sound-at)
+        rw (passedIn-relays p lay (moved p lay rows (occur e)) e (upFrom 0 (lay .rows)), append-nil) at
+        (steps-on p ok lay (hs ++ (e ∷ [])) (moved p lay rows (occur e)) (map (relay e) (upFrom 0 (lay .rows))) sound-at)
 
     heard-then : Heard p lay (hs ++ (e ∷ [])) rows-then
     unfolding rows-then allowed
     heard-then q l f k = cases ((either (among hs f) (same e f)) .0 (sym (among-more hs e f) ∙ k))
-        (λ a. steps-keep p lay (stepped p lay rows (occur e)) (map (relay e) (upFrom 0 (lay .rows))) q f (step-keeps p lay rows (occur e) q f (heard q l f a)))
-        (λ b. subst (λ (g : Event). steppedAll p lay (stepped p lay rows (occur e)) (map (relay e) (upFrom 0 (lay .rows))) q g ≡ true) (same-event e f b)
-        (relays-heard p lay (stepped p lay rows (occur e)) e (in-up 0 (lay .rows) q (omega arith) (omega arith)) l (search parts)
+        (λ a. steps-keep p lay (moved p lay rows (occur e)) (map (relay e) (upFrom 0 (lay .rows))) q f (step-keeps p lay rows (occur e) q f (heard q l f a)))
+        (λ b. subst (λ (g : Event). movedAll p lay (moved p lay rows (occur e)) (map (relay e) (upFrom 0 (lay .rows))) q g ≡ true) (same-event e f b)
+        (relays-heard p lay (moved p lay rows (occur e)) e (in-up 0 (lay .rows) q (omega arith) (omega arith)) l (search parts)
         (sound-at .own e (among-more hs e e ∙ rw (same-self e, or-true)))))
 
   script-full : (hs : List Event) (rows : ℕ → Event → Bool) (es : List Event) → InStep p lay hs rows → Heard p lay hs rows → runFrom p (reaches fresh hs) es ≡ true →
-      (passedIn p lay rows (script lay es) ≡ es) × Heard p lay (hs ++ es) (steppedAll p lay rows (script lay es))
-  unfolding script runFrom passedIn steppedAll rows-then reaches
+      (passedIn p lay rows (script lay es) ≡ es) × Heard p lay (hs ++ es) (movedAll p lay rows (script lay es))
+  unfolding script runFrom passedIn movedAll rows-then reaches
   script-full hs rows [] sound heard h = (refl, rw append-nil heard)
   script-full hs rows (e ∷ es) sound heard h =
       let a : allowed p (reaches fresh hs) e ≡ true = search parts in
@@ -149,14 +149,14 @@ module _ (p : List ℕ) (ok : Accepted p) (lay : Layout) (housed : Housed p lay)
       let ih = script-full (hs ++ (e ∷ [])) (rows-then hs rows e sound heard a) es (sound-then hs rows e sound heard a) (heard-then hs rows e sound heard a) r in (
         rw (
           happened hs rows e sound heard a,
-          passedIn-append p lay (stepped p lay rows (occur e)) (map (relay e) (upFrom 0 (lay .rows))) (script lay es),
-          passedIn-relays p lay (stepped p lay rows (occur e)) e (upFrom 0 (lay .rows)),
+          passedIn-append p lay (moved p lay rows (occur e)) (map (relay e) (upFrom 0 (lay .rows))) (script lay es),
+          passedIn-relays p lay (moved p lay rows (occur e)) e (upFrom 0 (lay .rows)),
         ) (ap (λ (l : List Event). e ∷ l) (ih .0)),
-        rw (stepped-append p lay (stepped p lay rows (occur e)) (map (relay e) (upFrom 0 (lay .rows))) (script lay es)) (rw append-assoc at (ih .1)),
+        rw (moved-append p lay (moved p lay rows (occur e)) (map (relay e) (upFrom 0 (lay .rows))) (script lay es)) (rw append-assoc at (ih .1)),
       )
 
   pub full : (es : List Event) → isRun p es ≡ true →
-      (ts : List Move) × (passedIn p lay silence ts ≡ es) × Heard p lay es (steppedAll p lay silence ts)
+      (ts : List Move) × (passedIn p lay silence ts ≡ es) × Heard p lay es (movedAll p lay silence ts)
   unfolding isRun runFrom reaches silence among any
   full es h =
       let r = script-full [] silence es (record { run = refl; true-to = λ q f h. h; own = λ f h. h }) (λ q l f h. h) h in

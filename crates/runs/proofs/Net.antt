@@ -21,9 +21,9 @@ passes p lay rows e = applies p e && not (barred p (rows (siteOf p lay e)) e) &&
 unfoldable pub relayed : List ℕ → Layout → (ℕ → Event → Bool) → Event → ℕ → Bool
 relayed p lay rows e q = applies p e && ltb q (lay .rows) && rows (siteOf p lay e) e
 
-unfoldable pub stepped : List ℕ → Layout → (ℕ → Event → Bool) → Move → ℕ → Event → Bool
-stepped p lay rows (occur e) = cond (passes p lay rows e) (learn rows (siteOf p lay e) e) rows
-stepped p lay rows (relay e q) = cond (relayed p lay rows e q) (learn rows q e) rows
+unfoldable pub moved : List ℕ → Layout → (ℕ → Event → Bool) → Move → ℕ → Event → Bool
+moved p lay rows (occur e) = cond (passes p lay rows e) (learn rows (siteOf p lay e) e) rows
+moved p lay rows (relay e q) = cond (relayed p lay rows e q) (learn rows q e) rows
 
 unfoldable pub passedBy : List ℕ → Layout → (ℕ → Event → Bool) → Move → List Event
 passedBy p lay rows (occur e) = cond (passes p lay rows e) (e ∷ []) []
@@ -32,11 +32,11 @@ passedBy p lay rows (relay e q) = []
 -- the events that pass in a list of steps, in order
 unfoldable pub passedIn : List ℕ → Layout → (ℕ → Event → Bool) → List Move → List Event
 passedIn p lay rows [] = []
-passedIn p lay rows (t ∷ ts) = passedBy p lay rows t ++ passedIn p lay (stepped p lay rows t) ts
+passedIn p lay rows (t ∷ ts) = passedBy p lay rows t ++ passedIn p lay (moved p lay rows t) ts
 
-unfoldable pub steppedAll : List ℕ → Layout → (ℕ → Event → Bool) → List Move → ℕ → Event → Bool
-steppedAll p lay rows [] = rows
-steppedAll p lay rows (t ∷ ts) = steppedAll p lay (stepped p lay rows t) ts
+unfoldable pub movedAll : List ℕ → Layout → (ℕ → Event → Bool) → List Move → ℕ → Event → Bool
+movedAll p lay rows [] = rows
+movedAll p lay rows (t ∷ ts) = movedAll p lay (moved p lay rows t) ts
 
 unfoldable pub silence : ℕ → Event → Bool
 silence q e = false

@@ -21,7 +21,7 @@ use Rattle.central.specs.Central.{fresh, allowed, runFrom, isRun, reaches}
 use Rattle.runs.proofs.Said.{same-event}
 use Rattle.runs.proofs.Fits.{guards-follow}
 use Rattle.runs.proofs.RunLaws.{run-more, among-more}
-use Rattle.runs.proofs.Net.{Move, occur, relay, learn, passes, relayed, stepped, passedBy, passedIn, steppedAll, silence}
+use Rattle.runs.proofs.Net.{Move, occur, relay, learn, passes, relayed, moved, passedBy, passedIn, movedAll, silence}
 
 -- what bars an event happens at the event's own site
 bars-host : (p : List ℕ) (c : Code) (v : ℕ) {f : Event} → In f (barsBy p c v) → hostOf p f ≡ hostBy c v (parent p v)
@@ -97,8 +97,8 @@ module _ (p : List ℕ) (ok : Accepted p) (lay : Layout) (es : List Event) (rows
     own = λ f k. rw (sound .own f k, or-true);
   }
 
-  pub step-on : (t : Move) → InStep p lay (es ++ passedBy p lay rows t) (stepped p lay rows t)
-  unfolding passedBy stepped
+  pub step-on : (t : Move) → InStep p lay (es ++ passedBy p lay rows t) (moved p lay rows t)
+  unfolding passedBy moved
   step-on (occur e) = go (passes p lay rows e) refl
     where
       go : (b : Bool) → passes p lay rows e ≡ b → InStep p lay (es ++ cond b (e ∷ []) []) (cond b (learn rows (siteOf p lay e) e) rows)
@@ -111,13 +111,13 @@ module _ (p : List ℕ) (ok : Accepted p) (lay : Layout) (es : List Event) (rows
       go false h = sound
 
 pub steps-on : (p : List ℕ) → Accepted p → (lay : Layout) (es : List Event) (rows : ℕ → Event → Bool) (ts : List Move) → InStep p lay es rows →
-    InStep p lay (es ++ passedIn p lay rows ts) (steppedAll p lay rows ts)
-unfolding passedIn steppedAll
+    InStep p lay (es ++ passedIn p lay rows ts) (movedAll p lay rows ts)
+unfolding passedIn movedAll
 steps-on p ok lay es rows [] h = rw append-nil h
-steps-on p ok lay es rows (t ∷ ts) h = rw append-assoc at (steps-on p ok lay (es ++ passedBy p lay rows t) (stepped p lay rows t) ts (step-on p ok lay es rows h t))
+steps-on p ok lay es rows (t ∷ ts) h = rw append-assoc at (steps-on p ok lay (es ++ passedBy p lay rows t) (moved p lay rows t) ts (step-on p ok lay es rows h t))
 
 -- The first part of demand 3, for every list of steps from the silent state
-pub safe : (p : List ℕ) → Accepted p → (lay : Layout) (ts : List Move) → InStep p lay (passedIn p lay silence ts) (steppedAll p lay silence ts)
+pub safe : (p : List ℕ) → Accepted p → (lay : Layout) (ts : List Move) → InStep p lay (passedIn p lay silence ts) (movedAll p lay silence ts)
 unfolding silence among any isRun runFrom
 safe p ok lay ts = steps-on p ok lay [] silence ts (record { run = refl; true-to = λ q f h. h; own = λ f h. h })
 

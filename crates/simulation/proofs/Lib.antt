@@ -2,3 +2,4 @@
 pub mod CodeLaws
 pub mod View
 pub mod StepLaws
+pub mod Bridge

@@ -58,7 +58,7 @@ module _ (p : List ℕ) (lay : Layout) (st : List ℕ) (code node : ℕ) where
   unfolding happen eventBy
   happen-passes = cases (decided (eqb (invalid p (stateFits p lay st) true code node) 0)) (λ z. rw z) (λ z. rw (z, z))
 
-  happen-leaves : happen p lay st code node .state
+  pub happen-leaves : happen p lay st code node .state
       ≡ cond (eqb (happen p lay st code node .number) 0) (withRow p st (siteOf p lay (eventOf code node)) (hear here code node)) st
   unfolding happen eventBy
   happen-leaves = cases (decided (eqb (invalid p (stateFits p lay st) true code node) 0))
@@ -79,7 +79,7 @@ module _ (p : List ℕ) (lay : Layout) (st : List ℕ) (code node : ℕ) where
         (λ z. cases (decided (heard here (eventOf code node))) (λ h. rw (z, h)) (λ h. rw (z, h)))
         (λ z. rw (z, z))
 
-    tell-leaves : tell p lay st code node q .state ≡ cond (eqb (tell p lay st code node q .number) 0) (withRow p st q (hear (rowOf p st q) code node)) st
+    pub tell-leaves : tell p lay st code node q .state ≡ cond (eqb (tell p lay st code node q .number) 0) (withRow p st q (hear (rowOf p st q) code node)) st
     unfolding tell
     tell-leaves = cases (decided (eqb (invalid p (stateFits p lay st) (ltb q (lay .rows)) code node) 0))
         (λ z. cases (decided (heard here (eventOf code node))) (λ h. rw (z, h)) (λ h. rw (z, h)))
