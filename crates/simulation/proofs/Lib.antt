@@ -3,3 +3,6 @@ pub mod CodeLaws
 pub mod View
 pub mod StepLaws
 pub mod Bridge
+pub mod Marks
+pub mod Claimed
+pub mod Main

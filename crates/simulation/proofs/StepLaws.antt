@@ -140,7 +140,7 @@ module _ (p : List ℕ) (ok : Accepted p) (lay : Layout) (housed : Housed p lay)
       omega (arith, length-take (size p) (drop (q * size p) st))
 
   -- the site's own tests of a row are those of the state
-  step-valid : (q : ℕ) → q < lay .rows → eqb (stepInvalid p code node (rowOf p st q)) 0 ≡ (isCode code && applies p (eventOf code node))
+  pub step-valid : (q : ℕ) → q < lay .rows → eqb (stepInvalid p code node (rowOf p st q)) 0 ≡ (isCode code && applies p (eventOf code node))
   unfolding stepInvalid
   step-valid q l = rw (eq-eqb (length (rowOf p st q)) (size p) (row-long q l)) (valid-is p ok true code node ∙ and-true _)
 
@@ -161,4 +161,4 @@ module _ (p : List ℕ) (ok : Accepted p) (lay : Layout) (housed : Housed p lay)
   unfolding relayed
   message-passes q =
       tell-passes p lay st code node q
-      ∙ rw (fitting, valid-is p ok (ltb q (lay .rows)) code node, and-assoc, and-assoc, and-assoc)
+      ∙ rw (fitting, valid-is p ok (ltb q (lay .rows)) code node) (simp and-assoc)
