@@ -88,8 +88,12 @@ module _ (p : List ℕ) (ok : Accepted p) (lay : Layout) (housed : Housed p lay)
     unfolding rowAt
     number-at e a h =
         step-passes p (codeNumber (e .code)) (e .node) (rowOf p (replay p lay ts) (siteOf p lay e))
-        ∙ rw (step-valid p ok lay housed (replay p lay ts) (whole .bytes .long) (codeNumber (e .code)) (e .node) (siteOf p lay e) (site-in p ok lay housed e a),
-        code-is (e .code), event-back e, a) (central e a h)
+        ∙ rw (
+          step-valid p ok lay housed (replay p lay ts) (whole .bytes .long) (codeNumber (e .code)) (e .node) (siteOf p lay e) (site-in p ok lay housed e a),
+          code-is (e .code),
+          event-back e,
+          a,
+        ) (central e a h)
 
     mark-is : (v : ℕ) → markAt p lay (replay p lay ts) v ≡ centralAfter p lay ts .mark v
     unfolding markAt centralAfter
@@ -122,11 +126,15 @@ module _ (p : List ℕ) (ok : Accepted p) (lay : Layout) (housed : Housed p lay)
   ended es h =
       let r = runs-end p es h in
       let t = had (es ++ r .0) (r .1) in
-      let stuck : Stuck p (reaches fresh (passed p lay (t .0))) = subst (λ (l : List Event). Stuck p (reaches fresh l)) (sym (t .1)) (r .2) in
-      (r .0, t .0, t .1, record {
-        informed = t .2;
-        still = λ e a. shut-by _ _ (central (t .0) e a (t .2 (siteOf p lay e) (site-in p ok lay housed e a)) ∙ stuck e);
-      })
+      let stuck : Stuck p (reaches fresh (passed p lay (t .0))) = subst (λ (l : List Event). Stuck p (reaches fresh l)) (sym (t .1)) (r .2) in (
+        r .0,
+        t .0,
+        t .1,
+        record {
+          informed = t .2;
+          still = λ e a. shut-by _ _ (central (t .0) e a (t .2 (siteOf p lay e) (site-in p ok lay housed e a)) ∙ stuck e);
+        },
+      )
 
   pub claim : Claim p lay
   unfolding passed replay

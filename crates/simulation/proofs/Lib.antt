@@ -6,3 +6,4 @@ pub mod Bridge
 pub mod Marks
 pub mod Claimed
 pub mod Main
+pub mod Cases
