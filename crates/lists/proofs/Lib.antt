@@ -7,3 +7,4 @@ pub mod Table
 pub mod Lent
 pub mod Filling
 pub mod Between
+pub mod Points

@@ -1,15 +1,14 @@
 -- THE MAIN CLAIM: what the simulation promises (rules I), demand 3 whole, and demand 2 as the simulation meets it. Each field stands under
 -- its rule. All of it is about the bytes that the functions of this crate leave, and about any layout of rows. Definitions only.
 use mathlib.Core.Path.{_≡_}
-use mathlib.Core.Bool.{true, false, _||_}
+use mathlib.Core.Bool.{true, false}
 use mathlib.Core.List.{List, _++_}
-use mathlib.Core.Logic.{_⊎_, _↔_}
-use Prim.Native.Nat.{ℕ, suc, _*_, _≤_, _<_}
-use lib.ListN.{length, getD}
-use Rattle.lists.specs.Seq.{any, earlier}
-use Rattle.plan.specs.Plan.{task, xor, kind, parent, size, children}
+use mathlib.Core.Logic.{_↔_, _⊎_}
+use Prim.Native.Nat.{ℕ, _*_, _≤_, _<_}
+use lib.ListN.{length}
+use Rattle.plan.specs.Plan.{size}
 use Rattle.plan.specs.Check.{Accepted}
-use Rattle.event.specs.Event.{start, offer, commit, abort, answered-yes, answered-no, pick, codeNumber, Event, at, eventOf, applies, among}
+use Rattle.event.specs.Event.{codeNumber, Event, eventOf, among, applies}
 use Rattle.event.specs.Site.{Layout, own, Housed, siteOf}
 use Rattle.guard.specs.Guard.{guard, holds, barred}
 use Rattle.central.specs.Central.{Central, fresh, allowed, isRun, reaches}
@@ -18,12 +17,8 @@ use Rattle.pass.specs.Record.{recordOf}
 use Rattle.site.specs.Row.{heard}
 use Rattle.site.specs.Verdict.{verdictNumber}
 use Rattle.site.specs.Step.{stepOf}
+use Rattle.runs.specs.Agree.{Bytes, Agrees}
 use Rattle.simulation.specs.Simulation.{rowOf, Step, message, simulate, replayFrom, passedFrom, replay, passed, heardAt, markAt, endMarks}
-
--- n bytes
-pub record Bytes (n : ℕ) (l : List ℕ) : Type 0 where
-  pub long : length l ≡ n
-  pub small : (i : ℕ) → getD l i 0 < 256
 
 -- the row where e happens, after the steps ts
 unfoldable pub rowAt : List ℕ → Layout → List Step → Event → List ℕ
@@ -41,15 +36,6 @@ Informed p lay ts q = (e : Event) → among (passed p lay ts) e ≡ true → amo
 pub record Over (p : List ℕ) (lay : Layout) (ts : List Step) : Type 0 where
   pub informed : (q : ℕ) → q < lay .rows → Informed p lay ts q
   pub still : (e : Event) → applies p e ≡ true → (barred p (heard (rowAt p lay ts e)) e ≡ true) ⊎ (holds (heard (rowAt p lay ts e)) (guard p e) ≡ false)
-
--- I9: the answers a agree with the events es. Works and yes are 1, fails and no 2, a pick is the child's place from 1
-pub record Agrees (p : List ℕ) (es : List Event) (a : List ℕ) : Type 0 where
-  pub task-works : (v : ℕ) → kind p v ≡ task → (among es (at offer v) || among es (at commit v)) ≡ true → getD a v 0 ≡ 1
-  pub task-fails : (v : ℕ) → kind p v ≡ task → among es (at abort v) ≡ true → getD a v 0 ≡ 2
-  pub says-yes : (v : ℕ) → among es (at answered-yes v) ≡ true → getD a v 0 ≡ 1
-  pub says-no : (v : ℕ) → among es (at answered-no v) ≡ true → getD a v 0 ≡ 2
-  pub picks : (v : ℕ) → among es (at pick v) ≡ true → getD a (parent p v) 0 ≡ suc (length (earlier (children p (parent p v)) v))
-  pub unpicked : (v : ℕ) → kind p v ≡ xor → among es (at start v) ≡ true → any (λ c. among es (at pick c)) (children p v) ≡ false → getD a v 0 ≡ 0
 
 pub record Claim (p : List ℕ) (lay : Layout) : Type 0 where
   -- I1
@@ -71,12 +57,12 @@ pub record Claim (p : List ℕ) (lay : Layout) : Type 0 where
   -- I7
   pub had : (es : List Event) → isRun p es ≡ true → (ts : List Step) × (passed p lay ts ≡ es) × ((q : ℕ) → q < lay .rows → Informed p lay ts q)
   -- I10: the pass accepts agreeing answers, and its record is the end record
-  pub accepts : (ts : List Step) → Over p lay ts → (a : List ℕ) → Bytes (size p) a → Agrees p (passed p lay ts) a → pass p a .number ≡ 0
-  pub same-record : (ts : List Step) → Over p lay ts → (a : List ℕ) → Bytes (size p) a → Agrees p (passed p lay ts) a →
+  pub accepts : (ts : List Step) → Over p lay ts → (a : List ℕ) → Bytes (size p) a → Agrees p (among (passed p lay ts)) a → pass p a .number ≡ 0
+  pub same-record : (ts : List Step) → Over p lay ts → (a : List ℕ) → Bytes (size p) a → Agrees p (among (passed p lay ts)) a →
       recordOf p (pass p a .marks) ≡ recordOf p (endMarks p lay (replay p lay ts))
   -- I8, I9: neither premise of I10 is empty. Every run goes on to one whose job is over, and some answers agree with every run
   pub ends : (es : List Event) → isRun p es ≡ true → (fs : List Event) × (ts : List Step) × (passed p lay ts ≡ es ++ fs) × Over p lay ts
-  pub agreed : (es : List Event) → isRun p es ≡ true → (a : List ℕ) × Bytes (size p) a × Agrees p es a
+  pub agreed : (es : List Event) → isRun p es ≡ true → (a : List ℕ) × Bytes (size p) a × Agrees p (among es) a
   -- I11: demand 2
   pub faithful : (ts : List Step) (e : Event) → applies p e ≡ true → Informed p lay ts (siteOf p lay e) →
       (verdictNumber (stepOf p (codeNumber (e .code)) (e .node) (rowAt p lay ts e) .verdict) ≡ 0) ↔ (allowed p (centralAfter p lay ts) e ≡ true)

@@ -1,0 +1,47 @@
+-- The worked cases P1 to P10, on plan P: a guard's bytes (P1 to P8), and the marks that the pass writes (P9, P10). Assumes nothing.
+use mathlib.Core.Path.{_≡_, refl}
+use mathlib.Core.List.{List, [], _∷_, map}
+use Prim.Native.Nat.{ℕ}
+use Rattle.lists.specs.Seq.{keep, upFrom, headOr, lastOr}
+use Rattle.plan.specs.Plan.{kindNumber, isKind, kindOf, size, kindByte, kind, parent, childrenBelow, children, others, above, inXor}
+use Rattle.event.specs.Event.{start, offer, commit, abort, down, codeNumber, Event, at}
+use Rattle.guard.specs.Guard.{beforeIn, isFirst, startBy, finishBy, abortBy, finishing, aborting, guardBy, guard}
+use Rattle.guard.specs.Bytes.{encEvents, encClauses, encode}
+use Rattle.pass.specs.Pass.{goesBy, goes, goodMark, skip, note, childMark, noted, meetBy, meet, walk, nothing, unwalked, oneOrTwo, badAnswer, badPick, closes, ending, endOf, close, settleIf, settleBy, settle, numberOf, rootMark, passOf, pass}
+
+pub data Question : Type 0 where
+  guard-bytes : Event → Question
+  pass-marks : List ℕ → Question
+
+-- serial 0: task 1, xor 2 of tasks 3 and 4, task 5
+abbrev planP : List ℕ
+planP = 2 ∷ 255 ∷ 1 ∷ 0 ∷ 5 ∷ 0 ∷ 1 ∷ 2 ∷ 1 ∷ 2 ∷ 1 ∷ 0 ∷ []
+
+pub answer : Question → List ℕ
+answer (guard-bytes e) = encode (guard planP e)
+answer (pass-marks a) = pass planP a .marks
+
+pub record Case : Type 0 where
+  pub asked : Question
+  pub told : List ℕ
+
+case : Question → List ℕ → Case
+case q a = record { asked = q; told = a }
+
+pub cases : List Case
+cases =
+    case (guard-bytes (at start 0)) (0 ∷ [])
+    ∷ case (guard-bytes (at start 2)) (1 ∷ 1 ∷ 3 ∷ 1 ∷ [])
+    ∷ case (guard-bytes (at commit 2)) (3 ∷ 3 ∷ 3 ∷ 3 ∷ 4 ∷ 3 ∷ 8 ∷ 3 ∷ 3 ∷ 3 ∷ 4 ∷ 4 ∷ 4 ∷ 8 ∷ 4 ∷ 2 ∷ 3 ∷ 3 ∷ 3 ∷ 4 ∷ [])
+    ∷ case (guard-bytes (at abort 2)) (2 ∷ 1 ∷ 4 ∷ 3 ∷ 1 ∷ 4 ∷ 4 ∷ [])
+    ∷ case (guard-bytes (at down 3)) (2 ∷ 1 ∷ 2 ∷ 3 ∷ 1 ∷ 7 ∷ 4 ∷ [])
+    ∷ case (guard-bytes (at commit 3)) (1 ∷ 1 ∷ 7 ∷ 3 ∷ [])
+    ∷ case (guard-bytes (at abort 0)) (1 ∷ 3 ∷ 4 ∷ 1 ∷ 4 ∷ 2 ∷ 4 ∷ 5 ∷ [])
+    ∷ case (guard-bytes (at offer 3)) (1 ∷ 1 ∷ 1 ∷ 3 ∷ [])
+    ∷ case (pass-marks (0 ∷ 1 ∷ 1 ∷ 1 ∷ 1 ∷ 1 ∷ [])) (3 ∷ 3 ∷ 3 ∷ 3 ∷ 5 ∷ 3 ∷ [])
+    ∷ case (pass-marks (0 ∷ 2 ∷ 1 ∷ 1 ∷ 1 ∷ 1 ∷ [])) (4 ∷ 4 ∷ 0 ∷ 0 ∷ 0 ∷ 0 ∷ [])
+    ∷ []
+
+pub all-right : map (λ k. answer (k .asked)) cases ≡ map (λ k. k .told) cases
+unfolding cases case answer encode encClauses encEvents guard guardBy startBy finishBy abortBy finishing aborting isFirst headOr beforeIn lastOr above inXor isKind kindNumber kind kindOf kindByte parent size children childrenBelow others keep upFrom codeNumber pass passOf settle settleBy settleIf close endOf ending closes badPick badAnswer oneOrTwo nothing unwalked walk meet meetBy noted note childMark skip goodMark goes goesBy numberOf rootMark
+all-right = refl

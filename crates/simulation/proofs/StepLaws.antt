@@ -1,0 +1,164 @@
+-- One step of the simulation, for any layout of rows: when it passes, and what it leaves. For an accepted plan and a fitting state the tests 1 to 7
+-- pass, and what is left are the code, the node, the site, bars and guard. Assumes nothing.
+use mathlib.Core.Path.{_≡_, refl, sym, _∙_}
+use mathlib.Core.Bool.{Bool, true, false, not, _&&_, cond, and-assoc, and-true}
+use mathlib.Core.List.{List}
+use Prim.Native.Nat.{ℕ, _*_, _<_}
+use lib.Dec.{eqb, ltb}
+use lib.ListN.{drop, length, length-drop, length-take}
+use lib.Seq.{set-getD}
+use borrow.Author.Tests.{eq-eqb, ne-eqb}
+use native.Mathlib.Omega.{arith}
+use Rattle.lists.proofs.Logic.{cases, and-right, parts, decided}
+use Rattle.plan.specs.Plan.{size, kind, inXor}
+use Rattle.plan.specs.Check.{Accepted}
+use Rattle.plan.proofs.Main.{check-exact}
+use Rattle.event.specs.Event.{codeOf, isCode, at, eventOf, appliesBy, applies, known}
+use Rattle.event.specs.Site.{Layout, Housed, siteOf}
+use Rattle.event.specs.Bit.{hasBit, withBit}
+use Rattle.event.specs.Valid.{invalid}
+use Rattle.event.proofs.CodeLaws.{code-number}
+use Rattle.guard.specs.Guard.{guard, holds, barred}
+use Rattle.site.specs.Row.{heardIn, heard, hear}
+use Rattle.site.specs.Verdict.{refusalNumber, verdictNumber}
+use Rattle.site.specs.Step.{stepInvalid, decide, stepOf}
+use Rattle.runs.proofs.Net.{passes, relayed}
+use Rattle.runs.proofs.Full.{site-in}
+use Rattle.simulation.specs.Simulation.{rowOf, withRow, Step, event, message, stateFits, eventBy, happen, tell, simulate}
+use Rattle.simulation.proofs.CodeLaws.{row-below, with-same}
+use Rattle.simulation.proofs.View.{view}
+
+-- a site's own step: it passes if the tests 1 to 9 do, the event is not barred, and its guard holds; then the event is set in the row
+module _ (p : List ℕ) (code node : ℕ) (row : List ℕ) where
+  abbrev Bar : Bool
+  Bar = barred p (heard row) (eventOf code node)
+
+  abbrev Hold : Bool
+  Hold = holds (heard row) (guard p (eventOf code node))
+
+  pub step-passes : eqb (verdictNumber (stepOf p code node row .verdict)) 0 ≡ (eqb (stepInvalid p code node row) 0 && (not Bar && Hold))
+  unfolding stepOf decide verdictNumber refusalNumber
+  step-passes = cases (decided (eqb (stepInvalid p code node row) 0))
+      (λ z. cases (decided Bar) (λ b. rw (z, b)) (λ b. cases (decided Hold) (λ h. rw (z, b, h)) (λ h. rw (z, b, h))))
+      (λ z. rw (z, z))
+
+  step-leaves : stepOf p code node row .row ≡ cond (eqb (verdictNumber (stepOf p code node row .verdict)) 0) (hear row code node) row
+  unfolding stepOf decide verdictNumber refusalNumber
+  step-leaves = cases (decided (eqb (stepInvalid p code node row) 0))
+      (λ z. cases (decided Bar) (λ b. rw (z, b)) (λ b. cases (decided Hold) (λ h. rw (z, b, h)) (λ h. rw (z, b, h))))
+      (λ z. rw (z, z))
+
+module _ (p : List ℕ) (lay : Layout) (st : List ℕ) (code node : ℕ) where
+  abbrev here : List ℕ
+  here = rowOf p st (siteOf p lay (eventOf code node))
+
+  -- an event
+  happen-passes : eqb (happen p lay st code node .number) 0
+      ≡ (eqb (invalid p (stateFits p lay st) true code node) 0 && eqb (verdictNumber (stepOf p code node here .verdict)) 0)
+  unfolding happen eventBy
+  happen-passes = cases (decided (eqb (invalid p (stateFits p lay st) true code node) 0)) (λ z. rw z) (λ z. rw (z, z))
+
+  pub happen-leaves : happen p lay st code node .state
+      ≡ cond (eqb (happen p lay st code node .number) 0) (withRow p st (siteOf p lay (eventOf code node)) (hear here code node)) st
+  unfolding happen eventBy
+  happen-leaves = cases (decided (eqb (invalid p (stateFits p lay st) true code node) 0))
+      (λ z. rw (z, step-leaves p code node here) (put-back (eqb (verdictNumber (stepOf p code node here .verdict)) 0)))
+      (λ z. rw (z, z))
+    where
+      put-back : (b : Bool) → withRow p st (siteOf p lay (eventOf code node)) (cond b (hear here code node) here)
+          ≡ cond b (withRow p st (siteOf p lay (eventOf code node)) (hear here code node)) st
+      put-back true = refl
+      put-back false = with-same p st (siteOf p lay (eventOf code node))
+
+  -- a message to site q
+  module _ (q : ℕ) where
+    tell-passes : eqb (tell p lay st code node q .number) 0
+        ≡ (eqb (invalid p (stateFits p lay st) (ltb q (lay .rows)) code node) 0 && heard here (eventOf code node))
+    unfolding tell
+    tell-passes = cases (decided (eqb (invalid p (stateFits p lay st) (ltb q (lay .rows)) code node) 0))
+        (λ z. cases (decided (heard here (eventOf code node))) (λ h. rw (z, h)) (λ h. rw (z, h)))
+        (λ z. rw (z, z))
+
+    pub tell-leaves : tell p lay st code node q .state ≡ cond (eqb (tell p lay st code node q .number) 0) (withRow p st q (hear (rowOf p st q) code node)) st
+    unfolding tell
+    tell-leaves = cases (decided (eqb (invalid p (stateFits p lay st) (ltb q (lay .rows)) code node) 0))
+        (λ z. cases (decided (heard here (eventOf code node))) (λ h. rw (z, h)) (λ h. rw (z, h)))
+        (λ z. rw (z, z))
+
+-- a refused step leaves the state
+pub refused-leaves : (p : List ℕ) (lay : Layout) (st : List ℕ) (t : Step) → (simulate p lay st t .number ≡ 0 → ⊥) → simulate p lay st t .state ≡ st
+unfolding simulate
+refused-leaves p lay st (event code node) h = happen-leaves p lay st code node ∙ rw (ne-eqb (happen p lay st code node .number) 0 h)
+refused-leaves p lay st (message code node q) h = tell-leaves p lay st code node q ∙ rw (ne-eqb (tell p lay st code node q .number) 0 h)
+
+-- what is heard is not set again
+hear-again : (row : List ℕ) (code node : ℕ) → heard row (eventOf code node) ≡ true → hear row code node ≡ row
+unfolding heard heardIn hear withBit hasBit
+hear-again row code node h = cases (decided (isCode code))
+    (λ c. let b = rw (code-number code c) at h in rw b (set-getD row node 0))
+    (λ c. rw c (set-getD row node 0))
+
+-- a repeated message changes nothing
+pub repeat-leaves : (p : List ℕ) (lay : Layout) (st : List ℕ) (code node q : ℕ) → heard (rowOf p st q) (eventOf code node) ≡ true →
+    simulate p lay st (message code node q) .state ≡ st
+unfolding simulate
+repeat-leaves p lay st code node q h = tell-leaves p lay st code node q ∙ go (eqb (tell p lay st code node q .number) 0)
+  where
+    go : (b : Bool) → cond b (withRow p st q (hear (rowOf p st q) code node)) st ≡ st
+    go true = rw (hear-again (rowOf p st q) code node h) (with-same p st q)
+    go false = refl
+
+-- AN ACCEPTED PLAN
+valid-is : (p : List ℕ) → Accepted p → (sited : Bool) (code node : ℕ) →
+    eqb (invalid p true sited code node) 0 ≡ ((isCode code && applies p (eventOf code node)) && sited)
+unfolding invalid known applies
+valid-is p ok sited code node =
+    rw ((check-exact p) .1 ok) (go (isCode code) (ltb node (size p)) (appliesBy (codeOf code) (kind p node) (inXor p node)) sited)
+  where
+    go : (c b x l : Bool) → eqb (cond (not ((c && b) && l)) 8 (cond (not (b && x)) 9 0)) 0 ≡ ((c && (b && x)) && l)
+    go false b x l = refl
+    go true false x l = refl
+    go true true false false = refl
+    go true true false true = refl
+    go true true true false = refl
+    go true true true true = refl
+
+shut : (c a n h : Bool) → (c && a) ≡ false → (c && ((a && n) && h)) ≡ false
+shut false a n h e = refl
+shut true a n h e = rw e
+
+module _ (p : List ℕ) (ok : Accepted p) (lay : Layout) (housed : Housed p lay) (st : List ℕ) (long : length st ≡ lay .rows * size p) (code node : ℕ) where
+  fitting : stateFits p lay st ≡ true
+  unfolding stateFits
+  fitting = eq-eqb (length st) (lay .rows * size p) long
+
+  row-long : (q : ℕ) → q < lay .rows → length (rowOf p st q) ≡ size p
+  unfolding rowOf
+  row-long q l =
+      let r = row-below (size p) q (lay .rows) l in
+      let d = length-drop (q * size p) st in
+      omega (arith, length-take (size p) (drop (q * size p) st))
+
+  -- the site's own tests of a row are those of the state
+  pub step-valid : (q : ℕ) → q < lay .rows → eqb (stepInvalid p code node (rowOf p st q)) 0 ≡ (isCode code && applies p (eventOf code node))
+  unfolding stepInvalid
+  step-valid q l = rw (eq-eqb (length (rowOf p st q)) (size p) (row-long q l)) (valid-is p ok true code node ∙ and-true _)
+
+  -- an event passes if it is one, and it passes by bars and guard at its site
+  pub event-passes : eqb (happen p lay st code node .number) 0 ≡ (isCode code && passes p lay (view p st) (eventOf code node))
+  unfolding passes
+  event-passes =
+      happen-passes p lay st code node
+      ∙ rw (fitting, valid-is p ok true code node, and-true) (cases (decided (isCode code && applies p (eventOf code node)))
+      (λ k. let c : isCode code ≡ true = search parts in
+      let a : applies p (eventOf code node) ≡ true = and-right (isCode code) _ k in
+      rw (c, a) (step-passes p code node (here p lay st code node)
+      ∙ rw (step-valid (siteOf p lay (eventOf code node)) (site-in p ok lay housed (eventOf code node) a), c, a)))
+      (λ k. rw k (sym (shut (isCode code) (applies p (eventOf code node)) _ _ k))))
+
+  -- a message passes if it tells of an event to a site, and the event's own site has heard it
+  pub message-passes : (q : ℕ) → eqb (tell p lay st code node q .number) 0 ≡ (isCode code && relayed p lay (view p st) (eventOf code node) q)
+  unfolding relayed
+  message-passes q =
+      tell-passes p lay st code node q
+      ∙ rw (fitting, valid-is p ok (ltb q (lay .rows)) code node) (simp and-assoc)
