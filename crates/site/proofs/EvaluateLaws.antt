@@ -23,7 +23,7 @@ module _ (row g : List ℕ) where
     unfolding eventsHold
     event-turn l =
         let e : a + 2 * j + 2 ≡ a + 2 * (j + 1) = omega arith in
-        rest ∙ rw (left-more m j l, getD-drop, getD-drop, add-zero, drop-drop, e)
+        rest ∙ rw (left-more m j l, getD-drop (a + 2 * j) g 0 0, getD-drop (a + 2 * j) g 1 0, add-zero, drop-drop, e)
 
     pub events-true : j < m → heardIn row (getD g (a + 2 * j) 0) (getD g (a + 2 * j + 1) 0) ≡ true → eventsHold row m (drop a g) ≡ true
     events-true l h = event-turn l ∙ simp h
@@ -40,7 +40,7 @@ module _ (row g : List ℕ) where
   module _ (whole : Bool) (n i at : ℕ) (rest : whole ≡ clausesHold row (n - i) (drop at g)) where
     clause-turn : (m : ℕ) → m ≡ getD g at 0 → i < n → whole ≡ (eventsHold row m (drop (at + 1) g) && clausesHold row (n - (i + 1)) (drop (at + (1 + 2 * m)) g))
     unfolding clausesHold
-    clause-turn m q l = rest ∙ rw (left-more n i l, getD-drop, add-zero, drop-drop, drop-drop, q)
+    clause-turn m q l = rest ∙ rw (left-more n i l, getD-drop, add-zero, drop-drop 1 at g, drop-drop, q)
 
     pub clause-true : (m : ℕ) → m ≡ getD g at 0 → i < n → eventsHold row m (drop (at + 1) g) ≡ true →
         whole ≡ clausesHold row (n - (i + 1)) (drop (at + (1 + 2 * m)) g)

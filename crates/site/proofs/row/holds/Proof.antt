@@ -17,7 +17,7 @@ abbrev μ-loop : tie.MeasureT-loop
 μ-loop row g n at₀ i₀ m j₀ at i j = m - j
 
 abbrev Inv-clause : tie.InvT-clause
-Inv-clause row g n at₀ i₀ at i = (i ≤ n) × (at ≤ 1 + 511 * i) × (bytesHold row g ≡ clausesHold row (n - i) (drop at g))
+Inv-clause row g n at₀ i₀ at i = (i ≤ n) × (at ≤ 1 + 1000 * i) × (bytesHold row g ≡ clausesHold row (n - i) (drop at g))
 
 abbrev μ-clause : tie.MeasureT-clause
 μ-clause row g n at₀ i₀ at i = n - i
