@@ -1,14 +1,14 @@
 -- What a row has after an event is set in it (rules B5 and H17). Assumes nothing.
-use mathlib.Core.Path.{_≡_, refl, sym, ap, subst, _∙_}
-use mathlib.Core.Bool.{true, false, _&&_, _||_, and-true, and-false}
+use mathlib.Core.Path.{_≡_, refl, sym, ap, _∙_}
+use mathlib.Core.Bool.{true, false, _||_, and-true, and-false}
 use mathlib.Core.List.{List}
 use Prim.Native.Nat.{ℕ, zero, suc, _≤_, _<_}
 use borrow.Author.Tests.{eqb-true, eqb-false, le-leb}
 use lib.Dec.{eqb}
-use lib.ListN.{length, getD, set, replicate, length-set}
+use lib.ListN.{length, getD, replicate, length-set}
 use lib.Seq.{set-getD, getD-set-same, getD-set-other}
 use Rattle.lists.proofs.Logic.{cases, decided}
-use Rattle.event.specs.Event.{Event, Code, codeNumber, codeOf, eventOf, isCode, same}
+use Rattle.event.specs.Event.{Event, codeNumber, codeOf, eventOf, isCode, same}
 use Rattle.event.specs.Bit.{hasBit, withBit}
 use Rattle.event.proofs.CodeLaws.{code-number}
 use Rattle.event.proofs.BitLaws.{with-bit, with-small, no-bit}

@@ -38,6 +38,7 @@ fn any_picked(plan: &[u8], u: u8, row: &[u8]) -> bool
     false
 }
 
+// By the codes of the node itself, and for a pick by those of its parent's children.
 pub(crate) fn is_barred(plan: &[u8], code: u8, v: u8, row: &[u8]) -> bool
     ensures { λ r. ⌜ r ≡ barred (now (plan .entry)) (heard (now (row .entry))) (eventOf code v) ⌝ }
 {

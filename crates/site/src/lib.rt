@@ -100,3 +100,19 @@ fn decide(plan: &[u8], code: u8, v: u8, g: &[u8], row: &mut [u8]) -> Verdict
         site,
     })
 }
+
+// A step of the event's site on that site's row. The plan is checked once: by `validate` where the row is no row of this plan, else by the
+// guard writer.
+pub fn step(plan: &[u8], code: u32, node: u32, row: &mut [u8]) -> Verdict
+    ensures { λ r. ⌜ stepOf (now (plan .entry)) code node (now (row .entry)) ≡ stepped (now (row .exit)) r ⌝ }
+{
+    if row.len() != plan::node_count(plan) {
+        let n = event::validate(plan, false, true, code, node);
+        return Verdict::Refused(Refusal::Invalid(n));
+    }
+    let mut buf = [0u8; 290];
+    match guard::write_guard(plan, code, node, &mut buf) {
+        guard::Written::Refused(n) => Verdict::Refused(Refusal::Invalid(n)),
+        guard::Written::Done(_) => decide(plan, code as u8, node as u8, &buf, row),
+    }
+}

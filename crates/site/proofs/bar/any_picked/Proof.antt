@@ -1,5 +1,5 @@
 -- The rest of the nodes says what all of the children say. Assumes nothing.
-use mathlib.Core.Path.{_≡_, sym, _∙_}
+use mathlib.Core.Path.{sym, _∙_}
 use mathlib.Core.Logic.{⊎-elim}
 use Prim.Native.Nat.{_-_}
 use Rattle.plan.specs.Plan.{size, parent}
