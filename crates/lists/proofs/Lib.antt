@@ -2,6 +2,7 @@
 pub mod Logic
 pub mod Members
 pub mod Keep
+pub mod Any
 pub mod Below
 pub mod Table
 pub mod Lent
