@@ -1,7 +1,7 @@
 -- Calls of the pass, with their numbers and marks, and classes: one table and one theorem each. Assumes nothing.
 use mathlib.Core.Path.{_≡_, refl}
 use mathlib.Core.List.{List, [], _∷_, map}
-use Prim.Native.Nat.{ℕ, zero, suc}
+use Prim.Native.Nat.{ℕ}
 use lib.ListN.{length, replicate}
 use Rattle.lists.specs.Seq.{keep, upFrom, allBelow, table}
 use Rattle.plan.specs.Plan.{kindNumber, isKind, kindOf, size, kindByte, kind, parent, childrenBelow, children, childCount, depthWithin, depth}

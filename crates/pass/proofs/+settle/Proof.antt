@@ -30,7 +30,24 @@ abbrev below : ℕ → In 3 kinds.ps
 below t = and 3 kinds.ps (falls 3 kinds.ps _<_ left t) settle.Pre
 
 abbrev callees : ℕ → lts.Claims
-callees t = (bad-answer-reads.Asked, bad-answer-reads.Learnt, wide-reads.Asked, wide-reads.Learnt, reaches-reads.Asked, reaches-reads.Learnt, skipped-reads.Asked, skipped-reads.Learnt, below t, settle.Post, child-mark-reads.Asked, child-mark-reads.Learnt, noted-reads.Asked, noted-reads.Learnt, ended-reads.Asked, ended-reads.Learnt)
+callees t = (
+  bad-answer-reads.Asked,
+  bad-answer-reads.Learnt,
+  wide-reads.Asked,
+  wide-reads.Learnt,
+  reaches-reads.Asked,
+  reaches-reads.Learnt,
+  skipped-reads.Asked,
+  skipped-reads.Learnt,
+  below t,
+  settle.Post,
+  child-mark-reads.Asked,
+  child-mark-reads.Learnt,
+  noted-reads.Asked,
+  noted-reads.Learnt,
+  ended-reads.Asked,
+  ended-reads.Learnt,
+)
 
 below-at : {x y t : ℕ} → y ≡ t → x < y → x < t
 below-at e h = omega arith
@@ -43,7 +60,8 @@ abbrev μ : lts.MeasureT-loop
 
 -- a turn's bounds
 turn : (t : ℕ) (c : lts.In-loop (callees t) (here t) settle.Post Inv μ) →
-    Turn (c .before .before .before .before .before .before .before .before .before .args .plan .now) (c .before .before .before .before .before .before .before .before .before .args .node) (c .before .loop .marks) (tallyOf (c .before .loop .t)) (c .before .loop .c)
+    Turn (c .before .before .before .before .before .before .before .before .before .args .plan .now) (c .before .before .before .before .before .before .before .before .before .args .node)
+    (c .before .loop .marks) (tallyOf (c .before .loop .t)) (c .before .loop .c)
 turn t c = turn-bounds (c .before .loop .inv) (c .loop-test .taken)
 
 mul-kind : (t : ℕ) → lts.Need-mul-kind (callees t) (here t) settle.Post Inv μ
@@ -86,7 +104,9 @@ loop-less : (t : ℕ) → lts.Need-loop-less (callees t) (here t) settle.Post In
 loop-less t c = let l = c .before .before .before .loop-test .taken in omega arith
 
 loop-again : (t : ℕ) → lts.Need-loop-again (callees t) (here t) settle.Post Inv μ
-loop-again t c = turn-other (c .before .before .before .before .loop .inv) (c .before .before .before .loop-test .taken) _ (c .before .wide .ensures) (c .if2 .taken)
+loop-again t c =
+    turn-other (c .before .before .before .before .loop .inv) (c .before .before .before .loop-test .taken)
+    _ (c .before .wide .ensures) (c .if2 .taken)
 
 reaches-requires : (t : ℕ) → lts.Need-reaches-requires (callees t) (here t) settle.Post Inv μ
 reaches-requires t c κs = tt
@@ -101,11 +121,17 @@ loop-less-2 : (t : ℕ) → lts.Need-loop-less-2 (callees t) (here t) settle.Pos
 loop-less-2 t c = let l = c .before .before .before .before .before .before .loop-test .taken in omega arith
 
 loop-again-2 : (t : ℕ) → lts.Need-loop-again-2 (callees t) (here t) settle.Post Inv μ
-loop-again-2 t c = turn-skip (c .before .before .before .before .before .before .before .loop .inv) (c .before .before .before .before .before .before .loop-test .taken) _ (c .before .before .before .before .wide .ensures) (c .before .before .before .if2 .left)
-    _ (c .before .before .reaches .ensures) (c .before .if3 .taken) _ (c .skipped .ensures)
+loop-again-2 t c =
+    turn-skip (c .before .before .before .before .before .before .before .loop .inv) (c .before .before .before .before .before .before .loop-test .taken)
+    _ (c .before .before .before .before .wide .ensures) (c .before .before .before .if2 .left)
+    _ (c .before .before .reaches .ensures) (c .before .if3 .taken)
+    _ (c .skipped .ensures)
 
 settle-requires : (t : ℕ) → lts.Need-settle-requires (callees t) (here t) settle.Post Inv μ
-settle-requires t c κs = (below-at (c .before .before .before .before .before .before .before .before .before .before .before .before .before .before .before .pre .0) (turn t (c .before .before .before .before .before .before) .falls), turn-ready (c .before .before .before .before .before .before .before .loop .inv) (c .before .before .before .before .before .before .loop-test .taken))
+settle-requires t c κs =
+    let above = c .before .before .before .before .before .before .before .before .before .before .before .before .before .before .before .pre .0 in
+    let b = turn t (c .before .before .before .before .before .before) in
+    (below-at above (b .falls), turn-ready (c .before .before .before .before .before .before .before .loop .inv) (c .before .before .before .before .before .before .loop-test .taken))
 
 child-mark-requires : (t : ℕ) → lts.Need-child-mark-requires (callees t) (here t) settle.Post Inv μ
 child-mark-requires t c κs = turn t (c .before .before .before .before .before .before .before .before .before) .few
@@ -123,9 +149,13 @@ loop-less-3 : (t : ℕ) → lts.Need-loop-less-3 (callees t) (here t) settle.Pos
 loop-less-3 t c = let l = c .before .before .before .before .before .before .before .before .before .before .before .loop-test .taken in omega arith
 
 loop-again-3 : (t : ℕ) → lts.Need-loop-again-3 (callees t) (here t) settle.Post Inv μ
-loop-again-3 t c = turn-enter (c .before .before .before .before .before .before .before .before .before .before .before .before .loop .inv) (c .before .before .before .before .before .before .before .before .before .before .before .loop-test .taken) _ (c .before .before .before .before .before .before .before .before .before .wide .ensures) (c .before .before .before .before .before .before .before .before .if2 .left)
-    _ (c .before .before .before .before .before .before .before .reaches .ensures) (c .before .before .before .before .before .before .if3 .left) _ _ (c .before .before .before .before .settle .kept .1 .1 .0) (c .before .before .before .before .settle .ensures)
-    _ (c .before .child-mark .ensures) _ (c .noted .ensures)
+loop-again-3 t c =
+    turn-enter (c .before .before .before .before .before .before .before .before .before .before .before .before .loop .inv) (c .before .before .before .before .before .before .before .before .before .before .before .loop-test .taken)
+    _ (c .before .before .before .before .before .before .before .before .before .wide .ensures) (c .before .before .before .before .before .before .before .before .if2 .left)
+    _ (c .before .before .before .before .before .before .before .reaches .ensures) (c .before .before .before .before .before .before .if3 .left)
+    _ _ (c .before .before .before .before .settle .kept .1 .1 .0) (c .before .before .before .before .settle .ensures)
+    _ (c .before .child-mark .ensures)
+    _ (c .noted .ensures)
 
 ended-requires : (t : ℕ) → lts.Need-ended-requires (callees t) (here t) settle.Post Inv μ
 ended-requires t c κs = tt

@@ -1,5 +1,5 @@
 -- The tally after a child, by how it ended. Assumes nothing.
-use mathlib.Core.Path.{sym, ap, _∙_}
+use mathlib.Core.Path.{ap}
 use borrow.Author.Needs.{needs}
 use native.Mathlib.Numerals.{add-one}
 use Rattle.pass.specs.Pass.{note}
