@@ -2,3 +2,4 @@
 pub mod TableLaws
 pub mod SettleLaws
 pub mod PassLaws
+pub mod Cases

@@ -11,9 +11,9 @@ use Rattle.plan.proofs.PlanLaws.{children-yes, children-no}
 use Rattle.plan.proofs.AcceptedLaws.{children-start}
 use Rattle.pass.specs.Pass.{Settled, Tally, Walked, goes, skip, note, childMark, noted, meetBy, meet, walk, nothing, unwalked, badAnswer, endOf, close, settleIf, settleBy, settle}
 use Rattle.pass.specs.Pass
-use Rattle.pass.specs.Code.{outcomeOf, Ready, Settles}
+use Rattle.pass.specs.Values.{outcomeOf, Ready, Settles}
 use Rattle.pass.specs.declared.Outcome.{Outcome}
-use Rattle.pass.specs.declared.Outcome.the-variants.{Works, Breaks, Fault}
+use Rattle.pass.specs.declared.Outcome.the-variants.{Fault}
 
 abbrev walked : Tally → List ℕ → Walked
 walked t m = record { tally = t; marks = m }
@@ -69,29 +69,32 @@ module _ {p a m : List ℕ} {v : ℕ} (r : Ready p a m v) (bad : ℕ) (told : ba
       go zero f = absurd (omega (arith, r .node))
       go (suc fuel) f = rw (ne-eqb (badAnswer (kindOf (getD p (2 * v) 0)) (getD a v 0)) 0 (λ q. e (told ∙ q)), told)
 
+-- a turn's bounds
+pub record Turn (p : List ℕ) (v : ℕ) (m : List ℕ) (t : Tally) (c : ℕ) : Type 0 where
+  pub within : c < size p
+  pub small : c ≤ 160
+  pub index : 2 * c + 1 < length p
+  pub written : c < length m
+  pub few : t .places < 255
+  pub falls : size p - c < size p - v
+
 module _ {p a m₀ : List ℕ} {v k x n : ℕ} {m : List ℕ} {t : Tally} {c : ℕ} (h : Walking p a m₀ v k x n m t c) where
-  -- a turn
   module _ (l : c < n) where
-    pub turn-small : c < size p
-    turn-small = omega (arith, h .size-is)
-
-    pub turn-index : 2 * c + 1 < length p
-    turn-index = omega (arith, turn-small, h .ready .accepted .even)
-
-    pub turn-written : c < length m
-    turn-written = omega (arith, turn-small, h .long)
-
-    pub turn-few : c ≤ 160
-    turn-few = omega (arith, turn-small, h .ready .accepted .few)
-
-    pub turn-places : t .places < 255
-    turn-places = omega (arith, turn-few, h .few)
-
-    pub turn-falls : size p - c < size p - v
-    turn-falls = omega (arith, turn-small, h .low)
+    pub turn-bounds : Turn p v m t c
+    turn-bounds =
+        let w : c < size p = omega (arith, h .size-is) in
+        let s : c ≤ 160 = omega (arith, h .ready .accepted .few) in
+        record {
+          within = w;
+          small = s;
+          index = omega (arith, h .ready .accepted .even);
+          written = omega (arith, h .long);
+          few = omega (arith, h .few);
+          falls = omega (arith, h .low);
+        }
 
     pub turn-ready : Ready p a m c
-    turn-ready = record { accepted = h .ready .accepted; answers = h .ready .answers; marks = h .long; node = turn-small }
+    turn-ready = record { accepted = h .ready .accepted; answers = h .ready .answers; marks = h .long; node = turn-bounds .within }
 
     again : (m′ : List ℕ) (t′ : Tally) → length m′ ≡ size p → t′ .places ≤ suc (t .places) →
         ((fuel : ℕ) → size p ≤ v + suc fuel → walk (settle p a fuel) (kindOf k) x (childrenBelow p (c + 1) v) (unwalked m₀) ≡ walked t′ m′) →
@@ -103,7 +106,7 @@ module _ {p a m₀ : List ℕ} {v k x n : ℕ} {m : List ℕ} {t : Tally} {c : �
       size-is = h .size-is;
       right = h .right;
       low = omega (arith, h .low);
-      high = omega (arith, turn-small);
+      high = omega (arith, turn-bounds .within);
       long = long;
       few = omega (arith, h .few);
       so-far = so-far;

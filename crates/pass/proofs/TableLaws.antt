@@ -2,7 +2,7 @@
 use mathlib.Core.Path.{_≡_, refl, sym, _∙_, ap}
 use mathlib.Core.Bool.{Bool, true, false, cond, _&&_, _||_, not, and-false, true≢false}
 use mathlib.Core.List.{List}
-use Prim.Native.Nat.{ℕ, zero, suc, _+_, _≤_, _<_}
+use Prim.Native.Nat.{ℕ, _+_, _≤_, _<_}
 use native.Mathlib.Numerals.{add-one}
 use native.Mathlib.Omega.{arith}
 use lib.Dec.{eqb}
@@ -13,7 +13,7 @@ use Rattle.lists.specs.Seq.{upFrom}
 use Rattle.lists.proofs.Between.{between}
 use Rattle.plan.specs.Plan.{Kind, task, serial, and, or, xor, contingency, conditional, kindNumber, isKind, kindOf, kindByte, kind}
 use Rattle.plan.proofs.KindLaws.{is-kind}
-use Rattle.pass.specs.Pass.{Outcome, works, breaks, fault, Tally, goesBy, goes, goodMark, note, childMark, oneOrTwo, badAnswer, badPick, closes, ending, endOf}
+use Rattle.pass.specs.Pass.{Outcome, works, breaks, fault, Tally, goesBy, goes, goodMark, note, childMark, oneOrTwo, badAnswer, badPick, closes, ending}
 use Rattle.pass.specs.Record.{classTable, class}
 
 -- a byte that is no block's

@@ -4,7 +4,7 @@ ghost use mathlib.Core.Path.{_≡_};
 ghost use Prim.Native.Nat.{_<_};
 ghost use Rattle.plan.specs.Plan.{kindOf};
 ghost use Rattle.pass.specs.Pass.{goes, skip, note, childMark, badAnswer, badPick, closes, endOf, numberOf, rootMark, passed, passInto};
-ghost use Rattle.pass.specs.Code.{outcomeOf, tallyOf, Ready, Settles};
+ghost use Rattle.pass.specs.Values.{outcomeOf, tallyOf, Ready, Settles};
 ghost use Rattle.pass.specs.Record.{class};
 
 // How a node ends; a fault has its number.
@@ -47,61 +47,41 @@ fn reaches(kind: u8, answer: u8, t: Tally) -> bool
         2 => !t.broke,
         3..=5 => true,
         6 => !t.worked,
-        7 => if t.places == 0 {
-            answer == 1
-        } else {
-            answer == 2
-        },
+        7 => {
+            if t.places == 0 {
+                answer == 1
+            } else {
+                answer == 2
+            }
+        }
         _ => false,
     }
 }
 
-// A child was not reached.
-fn skipped(t: Tally) -> Tally
+// The tally after a child that was not reached.
+fn skipped(mut t: Tally) -> Tally
     requires { ⌜ t .places < 255 ⌝ }
     ensures { λ r. ⌜ tallyOf r ≡ skip (tallyOf t) ⌝ }
 {
-    Tally {
-        places: t.places + 1,
-        worked: t.worked,
-        broke: t.broke,
-        chosen: t.chosen,
-        wrong: t.wrong,
-    }
+    t.places += 1;
+    t
 }
 
-// A child ended so.
-fn noted(answer: u8, t: Tally, o: Outcome) -> Tally
+// The tally after a child that ended so.
+fn noted(answer: u8, mut t: Tally, o: Outcome) -> Tally
     requires { ⌜ t .places < 255 ⌝ }
     ensures { λ r. ⌜ tallyOf r ≡ note answer (tallyOf t) (outcomeOf o) ⌝ }
 {
-    let places = t.places + 1;
+    t.places += 1;
     match o {
         Outcome::Works => {
-            let chosen = t.chosen || places == answer;
-            Tally {
-                places,
-                worked: true,
-                broke: t.broke,
-                chosen,
-                wrong: t.wrong,
-            }
+            t.worked = true;
+            t.chosen = t.chosen || t.places == answer;
         }
-        Outcome::Breaks => Tally {
-            places,
-            worked: t.worked,
-            broke: true,
-            chosen: t.chosen,
-            wrong: t.wrong,
-        },
-        Outcome::Fault(n) => Tally {
-            places,
-            worked: t.worked,
-            broke: t.broke,
-            chosen: t.chosen,
-            wrong: n,
-        },
+        Outcome::Breaks => t.broke = true,
+        Outcome::Fault(n) => t.wrong = n,
     }
+    t
 }
 
 // The mark of a child that ended so.
@@ -110,11 +90,13 @@ fn child_mark(kind: u8, answer: u8, t: Tally, o: Outcome) -> u8
     ensures { λ r. ⌜ r ≡ childMark (kindOf kind) answer (tallyOf t) (outcomeOf o) ⌝ }
 {
     match o {
-        Outcome::Works => if kind == 5 && t.places + 1 != answer {
-            5
-        } else {
-            3
-        },
+        Outcome::Works => {
+            if kind == 5 && t.places + 1 != answer {
+                5
+            } else {
+                3
+            }
+        }
         Outcome::Breaks => 4,
         Outcome::Fault(_) => 0,
     }

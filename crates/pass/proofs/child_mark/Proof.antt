@@ -3,7 +3,7 @@ use mathlib.Core.Path.{ap}
 use mathlib.Core.Logic.{⊎-elim}
 use borrow.Author.Needs.{needs}
 use Rattle.pass.specs.Pass.{childMark}
-use Rattle.pass.specs.Code.{outcomeOf}
+use Rattle.pass.specs.Values.{outcomeOf}
 use Rattle.pass.proofs.TableLaws.{mark-down, mark-picked, mark-plain}
 use Rattle.pass.proofs.child_mark.Statement.{statement}
 use Rattle.pass.proofs.child_mark.Tie as tie

@@ -1,15 +1,15 @@
 -- The tally after a child, by how it ended. Assumes nothing.
-use mathlib.Core.Path.{sym, ap, _∙_}
+use mathlib.Core.Path.{ap}
 use borrow.Author.Needs.{needs}
 use native.Mathlib.Numerals.{add-one}
 use Rattle.pass.specs.Pass.{note}
-use Rattle.pass.specs.Code.{outcomeOf, tallyOf}
+use Rattle.pass.specs.Values.{outcomeOf, tallyOf}
 use Rattle.pass.proofs.TableLaws.{note-works}
 use Rattle.pass.proofs.noted.Statement.{statement}
 use Rattle.pass.proofs.noted.Tie as tie
 
-add-places : tie.Need-add-places
-add-places c = search needs
+add-t : tie.Need-add-t
+add-t c = search needs
 
 enum-told : tie.Need-enum-told
 enum-told c = search needs
@@ -24,7 +24,9 @@ returns : tie.Need-returns
 returns c = note-works _ (tallyOf (c .before .before .before .before .args .t)) _ (ap outcomeOf (c .before .enum-told .given .1)) _ (rw (c .if1 .taken))
 
 returns-2 : tie.Need-returns-2
-returns-2 c = note-works _ (tallyOf (c .before .before .before .before .args .t)) _ (ap outcomeOf (c .before .enum-told .given .1)) _ (rw (c .if1 .left))
+returns-2 c =
+    note-works _ (tallyOf (c .before .before .before .before .before .args .t)) _ (ap outcomeOf (c .before .before .enum-told .given .1)) _
+    (rw (c .before .if1 .left))
 
 returns-3 : tie.Need-returns-3
 unfolding note
@@ -35,4 +37,4 @@ unfolding note
 returns-4 c = rw (c .before .o .given .1, add-one)
 
 pub noted-spec : {M : Type 1} → statement M
-noted-spec = tie.close (tie.spec add-places enum-told enum-told-2 enum-known-o returns returns-2 returns-3 returns-4)
+noted-spec = tie.close (tie.spec add-t enum-told enum-told-2 enum-known-o returns returns-2 returns-3 returns-4)

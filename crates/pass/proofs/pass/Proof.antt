@@ -5,11 +5,6 @@ use borrow.Author.Needs.{needs}
 use borrow.Author.Tests.{eqb-true, eqb-false, not-true, not-false}
 use Rattle.pass.proofs.pass.Statement.{statement}
 use Rattle.pass.proofs.pass.Tie as tie
-use Rattle.pass.proofs.pass.Reads as reads
-use Rattle.pass.proofs.pass.Lts as lts
-use Rattle.pass.proofs.settle_all.Reads as settle-all-reads
-use Rattle.plan.proofs.check.Reads as check-reads
-use Rattle.plan.proofs.node_count.Reads as node-count-reads
 
 check-requires : tie.Need-check-requires
 check-requires c κs = search needs

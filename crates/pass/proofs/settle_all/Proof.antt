@@ -1,15 +1,8 @@
 -- A local array takes the marks and is copied out where the root has no fault. Assumes nothing.
-use Rattle.pass.proofs.PassLaws.{buffer-length, buffer-ready, into-fault, into-marks, front-room, front-length, front-fits, copied}
+use Rattle.pass.proofs.PassLaws.{blank-length, blank-ready, Root, front-room, front-length, front-fits, into-fault, into-marks}
 use borrow.Author.Needs.{needs}
 use Rattle.pass.proofs.settle_all.Statement.{statement}
 use Rattle.pass.proofs.settle_all.Tie as tie
-use Rattle.pass.proofs.settle_all.Reads as reads
-use Rattle.pass.proofs.settle_all.Lts as lts
-use Rattle.bytes.proofs.copy.Reads as copy-reads
-use Rattle.pass.proofs.number_of.Reads as number-of-reads
-use Rattle.pass.proofs.root_mark.Reads as root-mark-reads
-use Rattle.pass.proofs.settle.Reads as settle-reads
-use Rattle.plan.proofs.node_count.Reads as node-count-reads
 
 node-count-requires : tie.Need-node-count-requires
 node-count-requires c κs = search needs
@@ -18,25 +11,30 @@ array-borrow-prefix-buf : tie.Need-array-borrow-prefix-buf
 array-borrow-prefix-buf c = search needs
 
 slice-aggregate-settle : tie.Need-slice-aggregate-settle
-slice-aggregate-settle c = buffer-length (c .before .before .before .before .before .pre) _ (c .before .node-count .ensures)
+slice-aggregate-settle c = blank-length (c .before .before .before .before .before .pre) _ (c .before .node-count .ensures)
 
 settle-requires : tie.Need-settle-requires
-settle-requires c κs = buffer-ready (c .before .before .before .before .before .pre) _ (c .before .node-count .ensures)
+settle-requires c κs = blank-ready (c .before .before .before .before .before .pre) _ (c .before .node-count .ensures)
+
+root : (c : tie.After-settle) →
+    Root (c .before .before .before .before .before .before .args .plan .now) (c .before .before .before .before .before .before .args .answers .now)
+    (c .before .before .before .before .before .before .args .marks .now) (c .before .before .node-count .result) (c .settle .last .1 .1 .0) (c .settle .result)
+root c = record { ready = c .before .before .before .before .before .before .pre; size-is = c .before .before .node-count .ensures; settled = c .settle .ensures; long = c .settle .kept .1 .1 .0 }
 
 number-of-requires : tie.Need-number-of-requires
 number-of-requires c κs = search needs
 
 returns : tie.Need-returns
-returns c = into-fault (c .before .before .before .before .before .before .before .before .before .pre) _ (c .before .before .before .before .before .node-count .ensures) (c .before .before .before .settle .ensures) _ (c .before .number-of .ensures) (c .if1 .taken)
+returns c = into-fault (root (c .before .before .before)) _ (c .before .number-of .ensures) (c .if1 .taken)
 
 array-share-prefix-buf : tie.Need-array-share-prefix-buf
-array-share-prefix-buf c = front-room (c .before .before .before .before .before .before .before .before .before .pre) _ (c .before .before .before .before .before .node-count .ensures) (c .before .before .before .settle .ensures) (c .before .before .before .settle .kept .1 .1 .0)
+array-share-prefix-buf c = front-room (root (c .before .before .before))
 
 slice-aggregate-copy : tie.Need-slice-aggregate-copy
-slice-aggregate-copy c = front-length (c .before .before .before .before .before .before .before .before .before .before .pre) _ (c .before .before .before .before .before .before .node-count .ensures) (c .before .before .before .before .settle .ensures) (c .before .before .before .before .settle .kept .1 .1 .0)
+slice-aggregate-copy c = front-length (root (c .before .before .before .before))
 
 copy-requires : tie.Need-copy-requires
-copy-requires c κs = front-fits (c .before .before .before .before .before .before .before .before .before .before .before .pre) _ (c .before .before .before .before .before .before .before .node-count .ensures) (c .before .before .before .before .before .settle .ensures) (c .before .before .before .before .before .settle .kept .1 .1 .0)
+copy-requires c κs = front-fits (root (c .before .before .before .before .before))
 
 root-mark-requires : tie.Need-root-mark-requires
 root-mark-requires c κs = search needs
@@ -48,8 +46,9 @@ same-length : tie.Need-same-length
 same-length c = search needs
 
 returns-2 : tie.Need-returns-2
-returns-2 c = into-marks (c .before .before .before .before .before .before .before .before .before .before .before .before .before .before .before .pre) _ (c .before .before .before .before .before .before .before .before .before .before .before .node-count .ensures) (c .before .before .before .before .before .before .before .before .before .settle .ensures) _ (c .before .before .before .before .before .before .before .number-of .ensures) (c .before .before .before .before .before .before .if1 .left)
-    _ (copied (c .before .before .before .before .before .before .before .before .before .before .before .before .before .before .before .pre) _ (c .before .before .before .before .before .before .before .before .before .before .before .node-count .ensures) (c .before .before .before .before .before .before .before .before .before .settle .ensures) (c .before .before .before .before .before .before .before .before .before .settle .kept .1 .1 .0) _ (c .before .before .before .copy .ensures .1)) _ (c .root-mark .ensures)
+returns-2 c =
+    into-marks (root (c .before .before .before .before .before .before .before .before .before)) _ (c .before .before .before .before .before .before .before .number-of .ensures) (c .before .before .before .before .before .before .if1 .left)
+    _ (c .before .before .before .copy .ensures .1) _ (c .root-mark .ensures)
 
 pub settle-all-spec : {M : Type 1} → statement M
 settle-all-spec =
