@@ -1,6 +1,6 @@
 -- What bars an event, as the code reads it: codes of the node itself, and for a pick those of its parent's children. Assumes nothing.
 use mathlib.Core.Path.{_≡_, refl, ap, _∙_}
-use mathlib.Core.Bool.{true, false}
+use mathlib.Core.Bool.{true, false, _||_}
 use mathlib.Core.Logic.{⊎-elim}
 use mathlib.Core.List.{List, [], _∷_, map}
 use Prim.Native.Nat.{ℕ, pred, _+_, _-_, _≤_, _<_}
@@ -50,9 +50,13 @@ module _ (p row : List ℕ) (n v : ℕ) where
   unfolding codeOf barsBy heard codeNumber
   barred-pick e = by-code pick (ap codeOf e) ∙ any-map (heard row) (at pick) (children p (parent p v))
 
--- u's children from node c on, of n nodes, say of picks what all of u's children say
+-- the nodes from c on, of n, that are u's children
+abbrev from : List ℕ → ℕ → ℕ → ℕ → List ℕ
+from p u n c = keep (λ v. eqb (parent p v) u) (upFrom c (n - c))
+
+-- they say of picks what all of u's children say
 abbrev pub Picks : List ℕ → List ℕ → ℕ → ℕ → ℕ → Type 0
-Picks p row u n c = any (heardIn row 7) (children p u) ≡ any (heardIn row 7) (keep (λ v. eqb (parent p v) u) (upFrom c (n - c)))
+Picks p row u n c = any (heardIn row 7) (children p u) ≡ any (heardIn row 7) (from p u n c)
 
 -- a loop over them, from node 1
 pub picks-begin : (p row : List ℕ) (u n : ℕ) → n ≡ size p → Picks p row u n 1
@@ -60,13 +64,15 @@ unfolding children childrenBelow
 picks-begin p row u n e = let q : n - 1 ≡ pred (size p) = omega arith in rw q
 
 module _ (p row : List ℕ) (u n c : ℕ) (rest : Picks p row u n c) where
-  pub picks-found : c < n → parent p c ≡ u → heardIn row 7 c ≡ true → any (heardIn row 7) (children p u) ≡ true
+  picks-child : c < n → parent p c ≡ u → any (heardIn row 7) (children p u) ≡ (heardIn row 7 c || any (heardIn row 7) (from p u n (c + 1)))
   unfolding any
-  picks-found l k h = rest ∙ rw (keep-yes (λ v. eqb (parent p v) u) c n l (eq-eqb (parent p c) u k), h)
+  picks-child l k = rest ∙ rw (keep-yes (λ v. eqb (parent p v) u) c n l (eq-eqb (parent p c) u k))
+
+  pub picks-found : c < n → parent p c ≡ u → heardIn row 7 c ≡ true → any (heardIn row 7) (children p u) ≡ true
+  picks-found l k h = picks-child l k ∙ rw h
 
   pub picks-on : c < n → parent p c ≡ u → heardIn row 7 c ≡ false → Picks p row u n (c + 1)
-  unfolding any
-  picks-on l k h = rest ∙ rw (keep-yes (λ v. eqb (parent p v) u) c n l (eq-eqb (parent p c) u k), h)
+  picks-on l k h = picks-child l k ∙ rw h
 
   pub picks-skip : c < n → (parent p c ≡ u → ⊥) → Picks p row u n (c + 1)
   picks-skip l k = rest ∙ rw (keep-no (λ v. eqb (parent p v) u) c n l (ne-eqb (parent p c) u k))

@@ -16,7 +16,7 @@ use Rattle.site.specs.Row.{heardIn, heard, hear}
 
 pub hear-length : (row : List ℕ) (code node : ℕ) → length (hear row code node) ≡ length row
 unfolding hear
-hear-length row code node = length-set row node (withBit (getD row node 0) code)
+hear-length row code node = simp length-set
 
 -- H17: a repeat changes nothing
 pub hear-again : (row : List ℕ) (code node : ℕ) → heardIn row code node ≡ true → hear row code node ≡ row

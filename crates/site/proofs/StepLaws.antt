@@ -101,30 +101,30 @@ module _ (p : List ℕ) (code node : ℕ) (row : List ℕ) where
         step-invalid n (rw (eq-eqb (length row) (size p) long) (t .number)) (t .failed)
 
   -- DECISIONS: 10, 11 and 0
-  abbrev pub ten : Stepped
-  ten = stepped row (Refused (Barred (siteAt p code node)))
+  abbrev pub decision-10 : Stepped
+  decision-10 = stepped row (Refused (Barred (siteAt p code node)))
 
-  abbrev pub eleven : Stepped
-  eleven = stepped row (Refused (Unmet (siteAt p code node)))
+  abbrev pub decision-11 : Stepped
+  decision-11 = stepped row (Refused (Unmet (siteAt p code node)))
 
-  abbrev pub pass : Stepped
-  pass = stepped (hear row code node) (Passed (record { code = code; node = node; site = siteAt p code node }))
+  abbrev pub decision-0 : Stepped
+  decision-0 = stepped (hear row code node) (Passed (record { code = code; node = node; site = siteAt p code node }))
 
-  pub decide-barred : barred p (heard row) (eventOf code node) ≡ true → decide p code node row ≡ ten
+  pub decide-barred : barred p (heard row) (eventOf code node) ≡ true → decide p code node row ≡ decision-10
   unfolding decide
   decide-barred b = rw b
 
   module _ (free : barred p (heard row) (eventOf code node) ≡ false) where
-    pub decide-unmet : holds (heard row) (guard p (eventOf code node)) ≡ false → decide p code node row ≡ eleven
+    pub decide-unmet : holds (heard row) (guard p (eventOf code node)) ≡ false → decide p code node row ≡ decision-11
     unfolding decide
     decide-unmet g = rw (free, g)
 
-    pub decide-passed : holds (heard row) (guard p (eventOf code node)) ≡ true → decide p code node row ≡ pass
+    pub decide-passed : holds (heard row) (guard p (eventOf code node)) ≡ true → decide p code node row ≡ decision-0
     unfolding decide
     decide-passed g = rw (free, g)
 
   -- what holds of the three holds of the decision. P also has whether the event is barred, and whether its guard holds
-  decide-by : (P : Bool → Bool → Stepped → Type 0) → ((g : Bool) → P true g ten) → P false false eleven → P false true pass →
+  decide-by : (P : Bool → Bool → Stepped → Type 0) → ((g : Bool) → P true g decision-10) → P false false decision-11 → P false true decision-0 →
       P (barred p (heard row) (eventOf code node)) (holds (heard row) (guard p (eventOf code node))) (decide p code node row)
   unfolding decide
   decide-by P x y z = three P x y z (barred p (heard row) (eventOf code node)) (holds (heard row) (guard p (eventOf code node)))
