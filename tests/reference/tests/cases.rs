@@ -3,10 +3,10 @@
 mod common;
 
 use common::*;
-use reference::exported::{check, guard as write_guard, number, simulate};
+use reference::exported::{check, guard, number, simulate};
 
 fn written(code: u32, node: u32) -> Vec<u8> {
-    guard(&hex(P), code, node)
+    guard_bytes(&hex(P), code, node)
 }
 
 #[test]
@@ -51,17 +51,17 @@ fn p8_offer_of_a_task() {
 
 #[test]
 fn p9_pass_with_everything_working() {
-    assert_eq!(pass(&hex(P), &[0, 1, 1, 1, 1, 1]), Ok(vec![3, 3, 3, 3, 5, 3]));
+    assert_eq!(pass_marks(&hex(P), &[0, 1, 1, 1, 1, 1]), Ok(vec![3, 3, 3, 3, 5, 3]));
 }
 
 #[test]
 fn p10_pass_with_the_first_task_failing() {
-    assert_eq!(pass(&hex(P), &[0, 2, 1, 1, 1, 1]), Ok(vec![4, 4, 0, 0, 0, 0]));
+    assert_eq!(pass_marks(&hex(P), &[0, 2, 1, 1, 1, 1]), Ok(vec![4, 4, 0, 0, 0, 0]));
 }
 
 #[test]
 fn p9_with_pick_0_is_14() {
-    assert_eq!(pass(&hex(P), &[0, 1, 0, 1, 1, 1]), Err(14));
+    assert_eq!(pass_marks(&hex(P), &[0, 1, 0, 1, 1, 1]), Err(14));
 }
 
 #[test]
@@ -85,8 +85,8 @@ fn depth_32_passes_33_does_not() {
 
 #[test]
 fn an_only_child_of_an_xor_is_never_turned_down() {
-    assert_eq!(guard(&hex("05ff 0100"), TURNED_DOWN, 1), hex("0201020100"));
-    assert_eq!(guard(&hex("02ff 0100 0500 0102"), TURNED_DOWN, 3), hex("0201020300"));
+    assert_eq!(guard_bytes(&hex("05ff 0100"), TURNED_DOWN, 1), hex("0201020100"));
+    assert_eq!(guard_bytes(&hex("02ff 0100 0500 0102"), TURNED_DOWN, 3), hex("0201020300"));
     let mut job = Rehearsal::new("05ff 0100");
     for (code, node) in [(START, 0), (START, 1), (OFFER, 1), (PICK, 1), (COMMIT, 1), (COMMIT, 0)] {
         assert_eq!(number(job.event(TURNED_DOWN, 1)), 11);
@@ -100,9 +100,9 @@ fn an_only_child_of_an_xor_is_never_turned_down() {
 fn the_longest_guard_has_290_bytes() {
     let mut plan = serial_of(32);
     plan[0] = 5;
-    assert_eq!(guard(&plan, COMMIT, 0).len(), 290);
+    assert_eq!(guard_bytes(&plan, COMMIT, 0).len(), 290);
     let mut buffer = [0xee; 289];
-    assert_eq!(write_guard(&plan, COMMIT, 0, &mut buffer), 7);
+    assert_eq!(guard(&plan, COMMIT, 0, &mut buffer), 7);
     assert_eq!(buffer, [0xee; 289]);
 }
 
@@ -137,7 +137,7 @@ fn guards_of_each_kind() {
         ("07", ABORT, 0, "010204010402"),
     ];
     for (kind, code, node, bytes) in table {
-        assert_eq!(guard(&block(kind), code, node), hex(bytes), "kind {kind} code {code} node {node}");
+        assert_eq!(guard_bytes(&block(kind), code, node), hex(bytes), "kind {kind} code {code} node {node}");
     }
 }
 
@@ -145,10 +145,10 @@ fn guards_of_each_kind() {
 #[test]
 fn children_may_be_scattered() {
     let plan = hex("03ff 0200 0200 0101 0102 0101 0102");
-    assert_eq!(guard(&plan, START, 5), hex("01010303"));
-    assert_eq!(guard(&plan, START, 6), hex("01010304"));
-    assert_eq!(guard(&plan, COMMIT, 1), hex("01010305"));
-    assert_eq!(guard(&plan, COMMIT, 2), hex("01010306"));
+    assert_eq!(guard_bytes(&plan, START, 5), hex("01010303"));
+    assert_eq!(guard_bytes(&plan, START, 6), hex("01010304"));
+    assert_eq!(guard_bytes(&plan, COMMIT, 1), hex("01010305"));
+    assert_eq!(guard_bytes(&plan, COMMIT, 2), hex("01010306"));
 }
 
 /// A job of plan P from beginning to end, and the pass for it.
@@ -180,5 +180,5 @@ fn a_job_of_plan_p() {
         assert!([9, 10, 11].contains(&refused), "over: code {code} node {node} gives {refused}");
     }
     assert_eq!(job.record(), (vec![3, 3, 3, 3, 5, 3], vec![0, 1, 0, 1, 2, 1]));
-    assert_eq!(pass(&job.plan, &[9, 1, 1, 1, 1, 1]), Ok(job.marks()));
+    assert_eq!(pass_marks(&job.plan, &[9, 1, 1, 1, 1, 1]), Ok(job.marks()));
 }

@@ -58,7 +58,7 @@ pub fn plan_of(nodes: usize) -> Vec<u8> {
 }
 
 /// The guard as bytes; panics if it is refused.
-pub fn guard(plan: &[u8], code: u32, node: u32) -> Vec<u8> {
+pub fn guard_bytes(plan: &[u8], code: u32, node: u32) -> Vec<u8> {
     let mut buffer = [0xee; 300];
     let result = exported::guard(plan, code, node, &mut buffer);
     assert_eq!(exported::number(result), 0, "code {code} node {node}");
@@ -69,7 +69,7 @@ pub fn guard(plan: &[u8], code: u32, node: u32) -> Vec<u8> {
 }
 
 /// The pass's marks, or its refusal.
-pub fn pass(plan: &[u8], answers: &[u8]) -> Result<Vec<u8>, u32> {
+pub fn pass_marks(plan: &[u8], answers: &[u8]) -> Result<Vec<u8>, u32> {
     let mut marks = vec![0xee; plan.len() / 2];
     match exported::pass(plan, answers, &mut marks) {
         0 => Ok(marks),
