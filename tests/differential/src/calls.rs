@@ -34,10 +34,10 @@ pub fn damaged_plans<S: Implementation>(trial: &mut Trial<S>, random: &mut Rando
 
 /// Guards of any event, into buffers of any length around the right one.
 pub fn guards<S: Implementation>(trial: &mut Trial<S>, random: &mut Random, plan: &[u8]) {
-    let nodes = plan.len() / 2;
+    let tree = Tree::new(plan);
     trial.check(plan);
     for _ in 0..60 {
-        let (code, node) = event(random, nodes);
+        let (code, node) = apt_event(random, &tree);
         let long = random.bytes(LONG_BUFFER);
         let exact = value(trial.guard(plan, code, node, &long)) as usize;
         let other = random.below(exact + 5);
@@ -52,7 +52,7 @@ pub fn rows<S: Implementation>(trial: &mut Trial<S>, random: &mut Random, plan: 
     let nodes = plan.len() / 2;
     let tree = Tree::new(plan);
     for _ in 0..100 {
-        let (code, node) = event(random, nodes);
+        let (code, node) = apt_event(random, &tree);
         let mut row = heard(random, nodes);
         if random.chance(60) {
             favour(random, &tree, &mut row, code, node);
@@ -85,8 +85,9 @@ pub fn passes<S: Implementation>(trial: &mut Trial<S>, random: &mut Random, plan
 /// The central rule on any marks and notes.
 pub fn views<S: Implementation>(trial: &mut Trial<S>, random: &mut Random, plan: &[u8]) {
     let nodes = plan.len() / 2;
+    let tree = Tree::new(plan);
     for _ in 0..60 {
-        let (code, node) = event(random, nodes);
+        let (code, node) = apt_event(random, &tree);
         let mut marks = some_marks(random, nodes);
         let notes = some_notes(random, nodes);
         if let Some(mark) = marks.get_mut(node as usize)
@@ -101,10 +102,11 @@ pub fn views<S: Implementation>(trial: &mut Trial<S>, random: &mut Random, plan:
 /// A rehearsal's step, and the record, on any state.
 pub fn states<S: Implementation>(trial: &mut Trial<S>, random: &mut Random, plan: &[u8]) {
     let nodes = plan.len() / 2;
+    let tree = Tree::new(plan);
     for _ in 0..20 {
         let state = heard(random, nodes * nodes);
         for _ in 0..4 {
-            let (code, node) = event(random, nodes);
+            let (code, node) = apt_event(random, &tree);
             let site = if random.chance(50) { HAPPENS } else { any_node(random, nodes) };
             trial.simulate(plan, code, node, site, &state);
         }
@@ -129,6 +131,17 @@ pub fn lengths<S: Implementation>(trial: &mut Trial<S>, random: &mut Random, pla
         trial.record(plan, &state, &one, &two);
         trial.central(plan, code, node, &one, &two);
     }
+}
+
+/// An event that mostly applies.
+fn apt_event(random: &mut Random, tree: &Tree) -> (u32, u32) {
+    let nodes = tree.children.len();
+    if random.chance(25) {
+        return event(random, nodes);
+    }
+    let node = random.below(nodes);
+    let codes: Vec<u32> = (1..=8).filter(|&code| tree.applies(code, node)).collect();
+    (random.one_of(&codes), node as u32)
 }
 
 /// A code and a node, mostly ones that exist.

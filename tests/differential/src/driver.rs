@@ -236,6 +236,14 @@ impl Tree {
         if code == PICK { self.parents[node].unwrap_or(node) } else { node }
     }
 
+    /// The parent and the sibling before, if the parent is of this kind and
+    /// the node isn't its first child.
+    pub fn before(&self, node: usize, kind: u8) -> Option<(usize, usize)> {
+        let parent = self.parents.get(node).copied()??;
+        let before = self.children[parent].iter().rfind(|&&other| other < node)?;
+        (self.kinds[parent] == kind).then_some((parent, *before))
+    }
+
     /// Whether an event applies to a node.
     pub fn applies(&self, code: u32, node: usize) -> bool {
         match code {

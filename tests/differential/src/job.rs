@@ -164,6 +164,7 @@ impl<'a, S: Implementation> Job<'a, S> {
     fn count_end(&mut self) {
         let jobs = &mut self.trial.tally.jobs;
         jobs.over += 1;
+        jobs.large += u64::from(self.nodes >= 100);
         jobs.committed += u64::from(self.marks[0] == 3);
         jobs.failed += u64::from(self.marks[0] == 4);
     }

@@ -30,7 +30,7 @@ pub struct Options {
 
 impl Default for Options {
     fn default() -> Options {
-        Options { seed: 1, steps: 3_000_000, texts: 4_000, enough: 10, only: None }
+        Options { seed: 1, steps: 6_000_000, texts: 4_000, enough: 10, only: None }
     }
 }
 
@@ -60,18 +60,18 @@ fn run_part<S: Implementation>(trial: &mut Trial<S>, seed: u64, part: u64) {
     if part >= FIRST_TEXT_PART {
         return texts::run(trial, random, TEXTS_IN_A_PART);
     }
-    let plan = if part % 256 == 7 { large_plan(random) } else { any_plan(random) };
+    let plan = if part % 128 == 7 { large_plan(random) } else { any_plan(random) };
     match part % 32 {
         0 | 16 => calls::damaged_plans(trial, random),
-        1 => calls::guards(trial, random, &plan),
+        1 | 17 => calls::guards(trial, random, &plan),
         2 | 18 => calls::rows(trial, random, &plan),
-        3 => calls::passes(trial, random, &plan),
+        3 | 19 => calls::passes(trial, random, &plan),
         4 | 20 => calls::views(trial, random, &plan),
-        5 => calls::states(trial, random, &plan),
+        5 | 21 => calls::states(trial, random, &plan),
         6 => calls::lengths(trial, random, &plan),
         7 => job::rehearse(trial, random, &plan),
-        8 => jobs(trial, random, 20, 60, 1),
-        9..=13 => jobs(trial, random, 8, 20, 1),
+        8 | 9 => jobs(trial, random, 20, 60, 1),
+        10..=15 => jobs(trial, random, 8, 20, 1),
         _ => jobs(trial, random, 1, 8, 4),
     }
 }

@@ -89,6 +89,8 @@ pub struct Jobs {
     pub committed: u64,
     /// Of these, with a failed root.
     pub failed: u64,
+    /// Of those that are over, with 100 nodes or more.
+    pub large: u64,
     /// Events that passed, in all.
     pub events: u64,
     /// Messages that passed, in all.
@@ -186,8 +188,13 @@ impl fmt::Display for Tally {
         writeln!(out, "\ncentral rule: {} allowed, {} not allowed", self.allowed, self.not_allowed)?;
         writeln!(
             out,
-            "rehearsals: {} begun, {} over ({} committed, {} failed), {} events, {} messages, {} agreeing lists",
-            jobs.begun, jobs.over, jobs.committed, jobs.failed, jobs.events, jobs.messages, jobs.agreeing
+            "rehearsals: {} begun, {} over ({} committed, {} failed; {} of 100 nodes or more)",
+            jobs.begun, jobs.over, jobs.committed, jobs.failed, jobs.large
+        )?;
+        writeln!(
+            out,
+            "            {} events, {} messages, {} agreeing answer lists",
+            jobs.events, jobs.messages, jobs.agreeing
         )?;
         writeln!(out, "texts: {}", self.texts)?;
         write!(out, "simulate and step calls: {}", self.steps())
