@@ -15,15 +15,38 @@ pub const FAILED: u8 = 4;
 /// Offered and then turned down.
 pub const TURNED_DOWN: u8 = 5;
 
-/// A node's mark, from the byte its own site's row has for it: the first in
-/// this order whose event was heard.
+/// A node's mark, from the byte its own site's row has for it.
 pub fn of_heard(byte: u8) -> u8 {
-    let order = [
-        (Code::Commit, COMMITTED),
-        (Code::Abort, FAILED),
-        (Code::TurnedDown, TURNED_DOWN),
-        (Code::Offer, OFFERED),
-        (Code::Start, RUNNING),
-    ];
-    order.iter().find(|(code, _)| byte & code.bit() != 0).map_or(IDLE, |&(_, mark)| mark)
+    MARKS[usize::from(byte)]
+}
+
+/// The mark of every byte a row can hold.
+const MARKS: [u8; 256] = {
+    let mut marks = [IDLE; 256];
+    let mut byte = 0;
+    while byte < marks.len() {
+        marks[byte] = first_that_fits(byte as u8);
+        byte += 1;
+    }
+    marks
+};
+
+/// The ends count before the stages on the way to them.
+const fn first_that_fits(byte: u8) -> u8 {
+    const fn has(byte: u8, code: Code) -> bool {
+        byte & code.bit() != 0
+    }
+    if has(byte, Code::Commit) {
+        COMMITTED
+    } else if has(byte, Code::Abort) {
+        FAILED
+    } else if has(byte, Code::TurnedDown) {
+        TURNED_DOWN
+    } else if has(byte, Code::Offer) {
+        OFFERED
+    } else if has(byte, Code::Start) {
+        RUNNING
+    } else {
+        IDLE
+    }
 }

@@ -45,15 +45,6 @@ impl Kind {
             _ => return None,
         })
     }
-
-    /// Whether a node of this kind may have so many children.
-    fn allows(self, children: u8) -> bool {
-        match self {
-            Kind::Task => children == 0,
-            Kind::Conditional => children == 2,
-            _ => (1..=MAX_CHILDREN).contains(&children),
-        }
-    }
 }
 
 /// A node's two bytes: kind, parent.
@@ -72,9 +63,10 @@ impl<'a> Plan<'a> {
         let nodes = split(bytes).ok_or(Refusal::PlanLength)?;
         require(kinds_known(nodes), Refusal::Kind)?;
         require(parents_lower(nodes), Refusal::Parent)?;
-        require(no_task_is_parent(nodes), Refusal::TaskParent)?;
-        require(children_counts_fit(nodes), Refusal::Children)?;
-        require(depth_fits(nodes), Refusal::Depth)?;
+        let tree = Survey::of(nodes);
+        require(!tree.task_has_child, Refusal::TaskParent)?;
+        require(tree.counts_fit(nodes), Refusal::Children)?;
+        require(tree.deepest <= MAX_DEPTH, Refusal::Depth)?;
         Ok(Plan { nodes })
     }
 
@@ -123,36 +115,57 @@ fn require(met: bool, refusal: Refusal) -> Result<(), Refusal> {
     if met { Ok(()) } else { Err(refusal) }
 }
 
+// The loops below look at every node even after a fault: without an early
+// way out they are faster on a plan that is right.
+
 fn kinds_known(nodes: &[Node]) -> bool {
-    nodes.iter().all(|node| (1..=7).contains(&node[0]))
+    nodes.iter().fold(true, |known, node| known & (1..=7).contains(&node[0]))
 }
 
 fn parents_lower(nodes: &[Node]) -> bool {
+    let root_stands_alone = nodes[0][1] == NO_PARENT;
     let others = nodes.iter().enumerate().skip(1);
-    nodes[0][1] == NO_PARENT && others.into_iter().all(|(number, node)| usize::from(node[1]) < number)
+    others.fold(root_stands_alone, |lower, (number, node)| lower & (usize::from(node[1]) < number))
 }
 
-fn no_task_is_parent(nodes: &[Node]) -> bool {
-    let task = Kind::Task as u8;
-    nodes[1..].iter().all(|node| nodes[usize::from(node[1])][0] != task)
+/// One entry for each number that a parent byte can name.
+type ByParent = [u8; 256];
+
+/// What one way along the nodes tells about the tree, once the parents are
+/// known to be lower.
+struct Survey {
+    task_has_child: bool,
+    children: ByParent,
+    deepest: u8,
 }
 
-fn children_counts_fit(nodes: &[Node]) -> bool {
-    let mut counts = [0u8; MAX_NODES];
-    for node in &nodes[1..] {
-        counts[usize::from(node[1])] += 1;
-    }
-    let mut pairs = nodes.iter().zip(counts);
-    pairs.all(|(node, count)| Kind::from_byte(node[0]).is_some_and(|kind| kind.allows(count)))
-}
-
-fn depth_fits(nodes: &[Node]) -> bool {
-    let mut depth = [1u8; MAX_NODES];
-    for (number, node) in nodes.iter().enumerate().skip(1) {
-        depth[number] = depth[usize::from(node[1])] + 1;
-        if depth[number] > MAX_DEPTH {
-            return false;
+impl Survey {
+    fn of(nodes: &[Node]) -> Survey {
+        let mut survey = Survey { task_has_child: false, children: [0; 256], deepest: 1 };
+        let mut depth: ByParent = [1; 256];
+        for (number, node) in nodes.iter().enumerate().skip(1) {
+            let parent = usize::from(node[1]);
+            survey.task_has_child |= nodes[parent][0] == Kind::Task as u8;
+            survey.children[parent] += 1;
+            depth[number] = depth[parent] + 1;
+            survey.deepest = survey.deepest.max(depth[number]);
         }
+        survey
     }
-    true
+
+    fn counts_fit(&self, nodes: &[Node]) -> bool {
+        let pairs = nodes.iter().zip(&self.children);
+        pairs.fold(true, |fit, (node, count)| fit & children_allowed(node[0]).contains(count))
+    }
+}
+
+/// How many children a node of this kind may have.
+fn children_allowed(kind: u8) -> std::ops::RangeInclusive<u8> {
+    const TASK: u8 = Kind::Task as u8;
+    const CONDITIONAL: u8 = Kind::Conditional as u8;
+    match kind {
+        TASK => 0..=0,
+        CONDITIONAL => 2..=2,
+        _ => 1..=MAX_CHILDREN,
+    }
 }

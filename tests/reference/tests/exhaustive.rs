@@ -68,7 +68,7 @@ impl World {
     }
 
     /// Whether the central rule allows it, and what it leaves.
-    fn from_above(&self, state: &[u8], code: u32, node: u32) -> (bool, (Vec<u8>, Vec<u8>)) {
+    fn judge_from_above(&self, state: &[u8], code: u32, node: u32) -> (bool, (Vec<u8>, Vec<u8>)) {
         let (mut marks, mut notes) = self.seen_from_above(state);
         let result = central(&self.plan, code, node, &mut marks, &mut notes);
         assert_eq!(number(result), 0);
@@ -107,7 +107,7 @@ impl World {
         let mut after_each = Vec::new();
         for &(code, node) in &self.events {
             let after = self.step(state, code, node, HAPPENS);
-            let (allowed, left) = self.from_above(state, code, node);
+            let (allowed, left) = self.judge_from_above(state, code, node);
             let what = format!("plan {:02x?} state {state:02x?} code {code} node {node}", self.plan);
             assert!(allowed || after.is_none(), "only what the central rule allows: {what}");
             assert!(!all_know || allowed == after.is_some(), "all that it allows: {what}");
