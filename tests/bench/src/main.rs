@@ -51,8 +51,8 @@ fn start((own_copy, rounds): (bool, usize)) -> Result<(), String> {
 
 #[cfg(feature = "archive")]
 fn start_archive(rounds: usize) -> Result<(), String> {
-    let mut archive = differential::archive::Archive { program: "rehearse".into() };
-    compare("archive", &mut archive, rounds)
+    let program = differential::program::Program { path: "rehearse".into() };
+    compare("archive", &mut differential::archive::Archive { program }, rounds)
 }
 
 #[cfg(not(feature = "archive"))]

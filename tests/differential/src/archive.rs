@@ -1,17 +1,12 @@
-//! The C archive, and the program `rehearse` that is run beside it.
+//! The C archive, and the program `rehearse` beside it.
 
 use crate::implementation::Implementation;
-use std::io::Write;
-use std::path::PathBuf;
-use std::process::{Child, Command, Stdio};
+use crate::program::Program;
 
-/// How many programs run at a time.
-const BATCH: usize = 16;
-
-/// The archive's functions, and the program at a path.
+/// The archive's functions, and the program.
 pub struct Archive {
-    /// Where the program is.
-    pub program: PathBuf,
+    /// Runs the texts.
+    pub program: Program,
 }
 
 impl Implementation for Archive {
@@ -47,33 +42,7 @@ impl Implementation for Archive {
         vulcedar::central(plan, code, node, marks, notes)
     }
 
-    /// Starts a batch, feeds it, then collects it. Texts and outputs fit into
-    /// a pipe, so nobody waits for anybody.
     fn rehearse(&mut self, texts: &[Vec<u8>]) -> Vec<Vec<u8>> {
-        let mut outputs = Vec::new();
-        for batch in texts.chunks(BATCH) {
-            let mut running: Vec<Child> = batch.iter().map(|_| self.start()).collect();
-            running.iter_mut().zip(batch).for_each(|(child, text)| feed(child, text));
-            outputs.extend(running.into_iter().map(output));
-        }
-        outputs
+        self.program.rehearse(texts)
     }
-}
-
-impl Archive {
-    fn start(&self) -> Child {
-        let mut command = Command::new(&self.program);
-        command.stdin(Stdio::piped()).stdout(Stdio::piped());
-        command.spawn().unwrap_or_else(|error| panic!("{}: {error}", self.program.display()))
-    }
-}
-
-/// A program may stop reading when it has seen enough; what it prints counts.
-fn feed(child: &mut Child, text: &[u8]) {
-    let mut input = child.stdin.take().expect("the input is a pipe");
-    let _ = input.write_all(text);
-}
-
-fn output(child: Child) -> Vec<u8> {
-    child.wait_with_output().expect("the program can be waited for").stdout
 }

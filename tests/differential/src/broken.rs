@@ -23,13 +23,13 @@ pub enum Mistake {
     PretendsAfterTheFirst,
     /// The root's start marks the whole plan committed.
     AllEndedAtTheRootsStart,
-    /// Answers 11 without looking at the row.
+    /// Every event is refused with 11, whatever was heard.
     GuardNeverHolds,
-    /// Writes the same guard for every event.
+    /// One guard is written for all events.
     SameGuardForAll,
-    /// Says passed and sets nothing.
+    /// Reports success but leaves the row alone.
     SetsNothing,
-    /// Refuses every plan.
+    /// No plan is good enough.
     RefusesEveryPlan,
     /// An and fails while children still run.
     AndFailsAtOnce,

@@ -12,7 +12,7 @@ use crate::trial::Trial;
 const LONG_BUFFER: usize = 300;
 
 /// Plans that are mostly refused, given to every function.
-pub fn damaged_plans<S: Implementation>(trial: &mut Trial<S>, random: &mut Random) {
+pub fn damaged_plans<S: Implementation, R: Implementation>(trial: &mut Trial<S, R>, random: &mut Random) {
     for _ in 0..20 {
         let plan = plans::damaged(random);
         trial.check(&plan);
@@ -33,7 +33,11 @@ pub fn damaged_plans<S: Implementation>(trial: &mut Trial<S>, random: &mut Rando
 }
 
 /// Guards of any event, into buffers of any length around the right one.
-pub fn guards<S: Implementation>(trial: &mut Trial<S>, random: &mut Random, plan: &[u8]) {
+pub fn guards<S: Implementation, R: Implementation>(
+    trial: &mut Trial<S, R>,
+    random: &mut Random,
+    plan: &[u8],
+) {
     let tree = Tree::new(plan);
     trial.check(plan);
     for _ in 0..60 {
@@ -48,7 +52,7 @@ pub fn guards<S: Implementation>(trial: &mut Trial<S>, random: &mut Random, plan
 }
 
 /// A site's step and hear on any row.
-pub fn rows<S: Implementation>(trial: &mut Trial<S>, random: &mut Random, plan: &[u8]) {
+pub fn rows<S: Implementation, R: Implementation>(trial: &mut Trial<S, R>, random: &mut Random, plan: &[u8]) {
     let nodes = plan.len() / 2;
     let tree = Tree::new(plan);
     for _ in 0..100 {
@@ -65,7 +69,11 @@ pub fn rows<S: Implementation>(trial: &mut Trial<S>, random: &mut Random, plan: 
 }
 
 /// Passes with answers that fit, nearly fit or don't fit at all.
-pub fn passes<S: Implementation>(trial: &mut Trial<S>, random: &mut Random, plan: &[u8]) {
+pub fn passes<S: Implementation, R: Implementation>(
+    trial: &mut Trial<S, R>,
+    random: &mut Random,
+    plan: &[u8],
+) {
     let nodes = plan.len() / 2;
     let tree = Tree::new(plan);
     for _ in 0..20 {
@@ -83,7 +91,11 @@ pub fn passes<S: Implementation>(trial: &mut Trial<S>, random: &mut Random, plan
 }
 
 /// The central rule on any marks and notes.
-pub fn views<S: Implementation>(trial: &mut Trial<S>, random: &mut Random, plan: &[u8]) {
+pub fn views<S: Implementation, R: Implementation>(
+    trial: &mut Trial<S, R>,
+    random: &mut Random,
+    plan: &[u8],
+) {
     let nodes = plan.len() / 2;
     let tree = Tree::new(plan);
     for _ in 0..60 {
@@ -100,7 +112,11 @@ pub fn views<S: Implementation>(trial: &mut Trial<S>, random: &mut Random, plan:
 }
 
 /// A rehearsal's step, and the record, on any state.
-pub fn states<S: Implementation>(trial: &mut Trial<S>, random: &mut Random, plan: &[u8]) {
+pub fn states<S: Implementation, R: Implementation>(
+    trial: &mut Trial<S, R>,
+    random: &mut Random,
+    plan: &[u8],
+) {
     let nodes = plan.len() / 2;
     let tree = Tree::new(plan);
     for _ in 0..20 {
@@ -116,7 +132,11 @@ pub fn states<S: Implementation>(trial: &mut Trial<S>, random: &mut Random, plan
 }
 
 /// Every buffer with a wrong length, alone and together with strange numbers.
-pub fn lengths<S: Implementation>(trial: &mut Trial<S>, random: &mut Random, plan: &[u8]) {
+pub fn lengths<S: Implementation, R: Implementation>(
+    trial: &mut Trial<S, R>,
+    random: &mut Random,
+    plan: &[u8],
+) {
     let nodes = plan.len() / 2;
     for _ in 0..20 {
         let (code, node) = event(random, nodes);

@@ -12,15 +12,19 @@ use crate::trial::{Trial, hex};
 struct Parted;
 
 /// Rehearses a valid plan, usually to the end.
-pub fn rehearse<S: Implementation>(trial: &mut Trial<S>, random: &mut Random, plan: &[u8]) {
+pub fn rehearse<S: Implementation, R: Implementation>(
+    trial: &mut Trial<S, R>,
+    random: &mut Random,
+    plan: &[u8],
+) {
     let temper = Temper::any(random);
     let limit = if random.chance(15) { random.below(60) } else { usize::MAX };
     trial.tally.jobs.begun += 1;
     let _ = Job::new(trial, random, plan, temper).run(limit);
 }
 
-struct Job<'a, S> {
-    trial: &'a mut Trial<S>,
+struct Job<'a, S, R> {
+    trial: &'a mut Trial<S, R>,
     random: &'a mut Random,
     plan: &'a [u8],
     nodes: usize,
@@ -32,8 +36,13 @@ struct Job<'a, S> {
     notes: Vec<u8>,
 }
 
-impl<'a, S: Implementation> Job<'a, S> {
-    fn new(trial: &'a mut Trial<S>, random: &'a mut Random, plan: &'a [u8], temper: Temper) -> Job<'a, S> {
+impl<'a, S: Implementation, R: Implementation> Job<'a, S, R> {
+    fn new(
+        trial: &'a mut Trial<S, R>,
+        random: &'a mut Random,
+        plan: &'a [u8],
+        temper: Temper,
+    ) -> Job<'a, S, R> {
         let nodes = plan.len() / 2;
         let mut state = Pair::default();
         state.load(&vec![0; nodes * nodes]);

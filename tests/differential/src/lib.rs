@@ -21,6 +21,7 @@ pub mod implementation;
 pub mod job;
 pub mod lent;
 pub mod plans;
+pub mod program;
 pub mod random;
 pub mod run;
 pub mod tally;

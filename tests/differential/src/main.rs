@@ -51,7 +51,8 @@ fn start((mode, options): (Mode, Options)) -> Result<ExitCode, String> {
 fn start_archive(options: Options) -> Result<ExitCode, String> {
     let program =
         env::var_os("VULCEDAR_REHEARSE").ok_or("VULCEDAR_REHEARSE must name the program rehearse")?;
-    let archive = differential::archive::Archive { program: program.into() };
+    let program = differential::program::Program { path: program.into() };
+    let archive = differential::archive::Archive { program };
     Ok(compare("the archive and the program", archive, options))
 }
 

@@ -1,7 +1,7 @@
 //! A whole run: its parts in turn, each with random numbers of its own, so
 //! that one part can be repeated alone.
 
-use crate::implementation::Implementation;
+use crate::implementation::{Implementation, Reference};
 use crate::plans;
 use crate::random::Random;
 use crate::tally::Tally;
@@ -35,8 +35,14 @@ impl Default for Options {
 }
 
 /// Compares a subject with the reference.
-pub fn run<S: Implementation>(subject: S, options: Options) -> Tally {
-    let mut trial = Trial::new(subject);
+pub fn run(subject: impl Implementation, options: Options) -> Tally {
+    run_against(subject, Reference, options)
+}
+
+/// Compares a subject with something else in the reference's place. What is
+/// held against the rules themselves doesn't depend on it.
+pub fn run_against(subject: impl Implementation, reference: impl Implementation, options: Options) -> Tally {
+    let mut trial = Trial::new(subject, reference);
     if let Some(part) = options.only {
         run_part(&mut trial, options.seed, part);
         return trial.tally;
@@ -54,13 +60,13 @@ pub fn run<S: Implementation>(subject: S, options: Options) -> Tally {
     trial.tally
 }
 
-fn run_part<S: Implementation>(trial: &mut Trial<S>, seed: u64, part: u64) {
+fn run_part<S: Implementation, R: Implementation>(trial: &mut Trial<S, R>, seed: u64, part: u64) {
     let random = &mut Random::part(seed, part);
     trial.tally.part = part;
     if part >= FIRST_TEXT_PART {
         return texts::run(trial, random, TEXTS_IN_A_PART);
     }
-    let plan = if part % 128 == 7 { large_plan(random) } else { any_plan(random) };
+    let plan = if part % 128 == 39 { large_plan(random) } else { any_plan(random) };
     match part % 32 {
         0 | 16 => calls::damaged_plans(trial, random),
         1 | 17 => calls::guards(trial, random, &plan),
@@ -77,8 +83,8 @@ fn run_part<S: Implementation>(trial: &mut Trial<S>, seed: u64, part: u64) {
 }
 
 /// Rehearsals of plans between two sizes.
-fn jobs<S: Implementation>(
-    trial: &mut Trial<S>,
+fn jobs<S: Implementation, R: Implementation>(
+    trial: &mut Trial<S, R>,
     random: &mut Random,
     least: usize,
     most: usize,

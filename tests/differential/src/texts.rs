@@ -12,10 +12,10 @@ use crate::trial::Trial;
 const MOST_BYTES: usize = 32_768;
 
 /// Gives the program so many texts and compares what it prints.
-pub fn run<S: Implementation>(trial: &mut Trial<S>, random: &mut Random, count: usize) {
+pub fn run<S: Implementation, R: Implementation>(trial: &mut Trial<S, R>, random: &mut Random, count: usize) {
     let texts: Vec<Vec<u8>> = (0..count).map(|_| any(random)).collect();
     let theirs = trial.subject.rehearse(&texts);
-    let ours = Reference.rehearse(&texts);
+    let ours = trial.reference.rehearse(&texts);
     for ((text, ours), theirs) in texts.iter().zip(&ours).zip(&theirs) {
         count_numbers(trial, text, ours);
         trial.tally.texts += 1;
@@ -184,7 +184,7 @@ fn random_lines(random: &mut Random) -> Vec<u8> {
 }
 
 /// Counts the numbers that a text leads to: its refusal, or each step's.
-fn count_numbers<S: Implementation>(trial: &mut Trial<S>, text: &[u8], output: &[u8]) {
+fn count_numbers<S: Implementation, R: Implementation>(trial: &mut Trial<S, R>, text: &[u8], output: &[u8]) {
     let lines = output.split(|&byte| byte == b'\n').filter(|line| line.len() == 2);
     for line in lines {
         let digits = std::str::from_utf8(line).ok();

@@ -3,17 +3,18 @@
 //! refused call leaves all, a passed step sets one bit.
 
 use crate::codes::{HAPPENS, PICK, number, value};
-use crate::implementation::{Implementation, Reference};
+use crate::implementation::Implementation;
 use crate::lent::{Lent, Pair};
 use crate::tally::{Function, Tally};
 
 /// Both sides, and what has been counted.
-pub struct Trial<S> {
+pub struct Trial<S, R> {
     /// The implementation under trial.
     pub subject: S,
+    /// What it is compared with.
+    pub reference: R,
     /// The counts.
     pub tally: Tally,
-    reference: Reference,
     plan: Lent,
     read: Lent,
     one: Pair,
@@ -28,13 +29,13 @@ struct Call<'a> {
     lent: &'a [&'a [u8]],
 }
 
-impl<S: Implementation> Trial<S> {
+impl<S: Implementation, R: Implementation> Trial<S, R> {
     /// A trial with nothing counted yet.
-    pub fn new(subject: S) -> Trial<S> {
+    pub fn new(subject: S, reference: R) -> Trial<S, R> {
         Trial {
             subject,
+            reference,
             tally: Tally::default(),
-            reference: Reference,
             plan: Lent::default(),
             read: Lent::default(),
             one: Pair::default(),

@@ -3,7 +3,7 @@
 
 use differential::Reference;
 use differential::broken::{Broken, Mistake};
-use differential::run::{Options, run};
+use differential::run::{Options, run, run_against};
 
 #[test]
 fn two_copies_of_the_reference_agree() {
@@ -22,6 +22,41 @@ fn every_mistake_is_found() {
         let tally = run(Broken::new(mistake), options);
         assert_ne!(tally.differences(), 0, "mistake {number}, {mistake:?}, is not found");
         println!("{number:>2} {mistake:?}: found after {} comparisons", tally.comparisons());
+    }
+}
+
+/// Mistakes that the rules themselves give away, even if both sides make
+/// them: by what a step may change, by the central rule, by the pass.
+#[test]
+fn a_mistake_on_both_sides_is_found() {
+    let mistakes = [
+        Mistake::CommitUnlessAbortHeard,
+        Mistake::PickAtTheChild,
+        Mistake::TurnedDownStillRuns,
+        Mistake::ContingencyStartsEarly,
+        Mistake::OfferedMayFail,
+        Mistake::PretendsAfterTheFirst,
+        Mistake::AllEndedAtTheRootsStart,
+        Mistake::GuardNeverHolds,
+        Mistake::SetsNothing,
+        Mistake::AndFailsAtOnce,
+        Mistake::SecondBranchOnYes,
+        Mistake::FalseMessageBelieved,
+        Mistake::MessageInTheWrongRow,
+        Mistake::GuardClearsTheRest,
+        Mistake::RefusedPassWrites,
+        Mistake::AnswersReadEverywhere,
+        Mistake::LosersStayOffered,
+        Mistake::OfferedBeforeTurnedDown,
+        Mistake::BlocksAreFiled,
+        Mistake::CentralPicksTwice,
+        Mistake::CentralAndFailsAtOnce,
+    ];
+    let options = Options { seed: 15, steps: 1_000_000, texts: 0, enough: 1, only: None };
+    for mistake in mistakes {
+        let tally = run_against(Broken::new(mistake), Broken::new(mistake), options);
+        assert_ne!(tally.differences(), 0, "{mistake:?} on both sides is not found");
+        println!("{mistake:?}: found after {} comparisons", tally.comparisons());
     }
 }
 

@@ -135,7 +135,7 @@ impl Job<'_> {
         }
     }
 
-    /// A conditional goes as the child of its branch.
+    /// The child of the answered branch decides.
     fn is_branch_due(&self, conditional: usize, ending: Ending) -> bool {
         let needed = match ending {
             Ending::Finish => COMMITTED,

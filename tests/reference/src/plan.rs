@@ -57,8 +57,8 @@ pub struct Plan<'a> {
 }
 
 impl<'a> Plan<'a> {
-    /// Checks the bytes of a plan. Each rule is tried over the whole plan
-    /// before the next one.
+    /// Checks the bytes of a plan. A rule counts only where no node breaks
+    /// an earlier one.
     pub fn check(bytes: &'a [u8]) -> Result<Plan<'a>, Refusal> {
         let nodes = split(bytes).ok_or(Refusal::PlanLength)?;
         require(kinds_known(nodes), Refusal::Kind)?;
