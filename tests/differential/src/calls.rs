@@ -248,7 +248,7 @@ fn favour(random: &mut Random, tree: &Tree, row: &mut [u8], code: u32, node: u32
     }
 }
 
-/// Answers for a pass that is accepted, unless the last step spoils it.
+/// Answers with which the pass is accepted; anything where it doesn't look.
 fn fitting_answers(random: &mut Random, tree: &Tree) -> Vec<u8> {
     let nodes = tree.children.len();
     let mut answers = random.bytes(nodes);

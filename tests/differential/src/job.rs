@@ -70,8 +70,10 @@ impl<'a, S: Implementation, R: Implementation> Job<'a, S, R> {
     /// One step on both sides; answers whether it passed.
     fn step(&mut self, step: Step) -> Result<bool, Parted> {
         let Step { code, node, site } = step;
+        let alone = self.sometimes_alone(step);
         let (result, same) = self.trial.simulate_on(self.plan, code, node, site, &mut self.state);
         self.require(same)?;
+        self.compare_with_site(step, alone, result)?;
         let passed = number(result) == 0;
         self.driver.heed(step, passed, self.random);
         if passed && site == HAPPENS {
@@ -85,6 +87,29 @@ impl<'a, S: Implementation, R: Implementation> Job<'a, S, R> {
 
     fn require(&self, same: bool) -> Result<(), Parted> {
         if same { Ok(()) } else { Err(Parted) }
+    }
+
+    /// What the event's site says by itself, on a copy of its row.
+    fn sometimes_alone(&mut self, step: Step) -> Option<u32> {
+        if step.site != HAPPENS || !self.random.chance(30) {
+            return None;
+        }
+        let node = step.node as usize;
+        let site = if node < self.nodes { self.tree.site(step.code, node) } else { 0 };
+        let row = self.state.subject.bytes()[site * self.nodes..][..self.nodes].to_vec();
+        Some(self.trial.step(self.plan, step.code, step.node, &row))
+    }
+
+    /// A rehearsal's event comes out as it does at the site alone.
+    fn compare_with_site(&mut self, step: Step, alone: Option<u32>, result: u32) -> Result<(), Parted> {
+        let Some(alone) = alone else {
+            return Ok(());
+        };
+        let same = self.trial.tally.compare(alone == result, || {
+            let plan = hex(self.plan);
+            format!("site alone {alone:08x}, rehearsal {result:08x}: plan {plan} {step:?}")
+        });
+        self.require(same)
     }
 
     /// An event has passed: the central rule must allow it, and come to the
