@@ -1,4 +1,4 @@
-//! Helpers that several test files share.
+//! What several test files share.
 #![allow(dead_code)]
 
 use reference::exported;
