@@ -1,0 +1,143 @@
+//! A plan with all kinds of blocks, and a job of it that is half done.
+
+use differential::codes::*;
+use differential::driver::{Driver, Step, Temper, Tree};
+use differential::random::Random;
+use differential::{Implementation, Reference};
+
+/// The kinds of the small blocks, in turn.
+const KINDS: [u8; 6] = [XOR, SERIAL, CONDITIONAL, AND, OR, CONTINGENCY];
+
+/// A step with the place in the state that it may change.
+#[derive(Clone, Copy)]
+pub struct PlacedStep {
+    /// The step.
+    pub step: Step,
+    /// The index of its byte in the state.
+    pub place: usize,
+}
+
+/// What the functions are measured on.
+#[derive(Clone)]
+pub struct Fixture {
+    pub plan: Vec<u8>,
+    pub nodes: usize,
+    /// All events that apply, with the site each happens at.
+    pub events: Vec<(u32, u32, usize)>,
+    /// Each of these events, and a message of each.
+    pub steps: Vec<PlacedStep>,
+    /// All rows, half way through a job.
+    pub state: Vec<u8>,
+    /// The same half way, seen from above.
+    pub marks: Vec<u8>,
+    pub notes: Vec<u8>,
+    /// Answers with which every task works.
+    pub answers: Vec<u8>,
+}
+
+impl Fixture {
+    /// A plan of 10, 40 or 160 nodes and its half-done job.
+    pub fn new(nodes: usize) -> Fixture {
+        let plan = plan(nodes);
+        let tree = Tree::new(&plan);
+        let events = events(&tree, nodes);
+        let steps = events.iter().flat_map(|&event| placed_steps(event, nodes)).collect();
+        let (_, whole_job) = job(&plan, usize::MAX);
+        let (state, _) = job(&plan, whole_job / 2);
+        let (marks, notes) = seen_from_above(&plan, &tree, &state);
+        Fixture { nodes, events, steps, state, marks, notes, answers: vec![1; nodes], plan }
+    }
+}
+
+/// Blocks of two tasks, below the root or below three groups of it.
+fn plan(nodes: usize) -> Vec<u8> {
+    let mut plan = vec![AND, 0xff];
+    if nodes < 100 {
+        add_blocks(&mut plan, 0, nodes);
+    } else {
+        for group in 1..=3 {
+            let root = (plan.len() / 2) as u8;
+            plan.extend([AND, 0]);
+            add_blocks(&mut plan, root, 1 + group * (nodes - 1) / 3);
+        }
+    }
+    assert_eq!((plan.len() / 2, Reference.check(&plan)), (nodes, 0));
+    plan
+}
+
+/// Fills up to so many nodes with blocks of two tasks, and tasks at the end.
+fn add_blocks(plan: &mut Vec<u8>, parent: u8, nodes: usize) {
+    for kind in KINDS.into_iter().cycle() {
+        let block = plan.len() / 2;
+        match nodes - block {
+            0 => return,
+            1 | 2 => plan.extend([TASK, parent]),
+            _ => plan.extend([kind, parent, TASK, block as u8, TASK, block as u8]),
+        }
+    }
+}
+
+fn events(tree: &Tree, nodes: usize) -> Vec<(u32, u32, usize)> {
+    let all = (1..=8).flat_map(|code| (0..nodes).map(move |node| (code, node)));
+    let apply = all.filter(|&(code, node)| tree.applies(code, node));
+    apply.map(|(code, node)| (code, node as u32, tree.site(code, node))).collect()
+}
+
+/// The event itself, and a message of it to some other site.
+fn placed_steps((code, node, site): (u32, u32, usize), nodes: usize) -> [PlacedStep; 2] {
+    let hearer = (site + 1) % nodes;
+    let at = |row: usize| row * nodes + node as usize;
+    [
+        PlacedStep { step: Step { code, node, site: HAPPENS }, place: at(site) },
+        PlacedStep { step: Step { code, node, site: hearer as u32 }, place: at(hearer) },
+    ]
+}
+
+/// The state after so many events of a job, or at its end, and how many
+/// events there were.
+fn job(plan: &[u8], most: usize) -> (Vec<u8>, usize) {
+    let nodes = plan.len() / 2;
+    let mut random = Random::new(nodes as u64);
+    let mut driver = Driver::new(plan, Temper { failing: 10, noise: 0, late: 0, eager: 50 });
+    let mut state = vec![0; nodes * nodes];
+    while driver.passed().len() < most
+        && let Some(step) = driver.propose(&mut random)
+    {
+        let result = Reference.simulate(plan, step.code, step.node, step.site, &mut state);
+        driver.heed(step, number(result) == 0, &mut random);
+    }
+    (state, driver.passed().len())
+}
+
+/// Marks, answers and picks of a state.
+fn seen_from_above(plan: &[u8], tree: &Tree, state: &[u8]) -> (Vec<u8>, Vec<u8>) {
+    let nodes = plan.len() / 2;
+    let (mut marks, mut classes) = (vec![0; nodes], vec![0; nodes]);
+    assert_eq!(Reference.record(plan, state, &mut marks, &mut classes), 0);
+    let heard = |code: u32, node: usize| state[tree.site(code, node) * nodes + node] & bit(code);
+    let notes = (0..nodes).map(|node| heard(YES, node) | heard(NO, node) | heard(PICK, node));
+    (marks, notes.collect())
+}
+
+#[cfg(test)]
+mod tests {
+    use super::*;
+
+    /// Half way is neither the beginning nor the end, and steps of each sort
+    /// are met.
+    #[test]
+    fn fixtures_are_half_way() {
+        for nodes in [10, 40, 160] {
+            let fixture = Fixture::new(nodes);
+            let running = fixture.marks.iter().filter(|&&mark| mark == 1).count();
+            assert!(running > 0, "{nodes}: {:?}", fixture.marks);
+            let mut met = [0; 16];
+            for PlacedStep { step, .. } in fixture.steps {
+                let mut state = fixture.state.clone();
+                let result = Reference.simulate(&fixture.plan, step.code, step.node, step.site, &mut state);
+                met[usize::from(number(result))] += 1;
+            }
+            assert!([0, 10, 11, 12].iter().all(|&number| met[number] > 0), "{nodes}: {met:?}");
+        }
+    }
+}

@@ -1,0 +1,121 @@
+//! Measures each exported function of the C archive against the reference,
+//! and a whole job by simulate: same inputs, in turn, medians of many rounds.
+
+mod fixture;
+mod job;
+mod measure;
+mod work;
+
+use differential::{Implementation, Reference};
+use fixture::Fixture;
+use job::Script;
+use measure::{Medians, in_turn};
+use std::env;
+use std::process::ExitCode;
+use work::{NAMES, Work};
+
+const USAGE: &str = "usage: bench [--self] [--rounds N]";
+/// The sizes of the measured plans.
+const SIZES: [usize; 3] = [10, 40, 160];
+
+fn main() -> ExitCode {
+    match read_arguments(env::args().skip(1)).and_then(start) {
+        Ok(()) => ExitCode::SUCCESS,
+        Err(message) => {
+            eprintln!("{message}");
+            ExitCode::FAILURE
+        }
+    }
+}
+
+/// Whether to measure two copies of the reference, and how many rounds.
+fn read_arguments(mut words: impl Iterator<Item = String>) -> Result<(bool, usize), String> {
+    let mut own_copy = false;
+    let mut rounds = 201;
+    while let Some(word) = words.next() {
+        match word.as_str() {
+            "--self" => own_copy = true,
+            "--rounds" => rounds = words.next().and_then(|word| word.parse().ok()).ok_or(USAGE)?,
+            _ => return Err(USAGE.to_string()),
+        }
+    }
+    Ok((own_copy, rounds.max(1)))
+}
+
+fn start((own_copy, rounds): (bool, usize)) -> Result<(), String> {
+    if own_copy {
+        return compare("copy", &mut Reference, rounds);
+    }
+    start_archive(rounds)
+}
+
+#[cfg(feature = "archive")]
+fn start_archive(rounds: usize) -> Result<(), String> {
+    let program = differential::program::Program { path: "rehearse".into() };
+    compare("archive", &mut differential::archive::Archive { program }, rounds)
+}
+
+#[cfg(not(feature = "archive"))]
+fn start_archive(_: usize) -> Result<(), String> {
+    Err(format!("built without the archive: build with --features archive, or use --self\n{USAGE}"))
+}
+
+/// Measures everything and prints the table.
+fn compare(name: &str, subject: &mut impl Implementation, rounds: usize) -> Result<(), String> {
+    println!(
+        "{:<10}{:>6}{:>14}{:>14}{:>8}",
+        "function",
+        "nodes",
+        format!("{name} ns"),
+        "reference ns",
+        "ratio"
+    );
+    for function in NAMES {
+        for nodes in SIZES {
+            let medians = compare_function(function, nodes, subject, rounds)?;
+            print_line(function, nodes, &medians);
+        }
+    }
+    compare_job(name, subject, rounds.div_ceil(10))
+}
+
+fn compare_function(
+    function: &'static str,
+    nodes: usize,
+    subject: &mut impl Implementation,
+    rounds: usize,
+) -> Result<Medians, String> {
+    let fixture = Fixture::new(nodes);
+    let (mut theirs, mut ours) = (Work::new(function, &fixture), Work::new(function, &fixture));
+    if theirs.run(subject) != ours.run(&mut Reference) {
+        return Err(format!("{function} answers differently with {nodes} nodes; run the differential test"));
+    }
+    let calls = ours.calls();
+    Ok(in_turn(rounds, calls, || theirs.run(subject), || ours.run(&mut Reference)))
+}
+
+fn compare_job(name: &str, subject: &mut impl Implementation, rounds: usize) -> Result<(), String> {
+    let script = Script::new();
+    let (mut theirs, mut ours) = (script.fresh_state(), script.fresh_state());
+    if !script.is_over(subject, &mut theirs) || !script.is_over(&mut Reference, &mut ours) {
+        return Err("the job does not end as it should; run the differential test".to_string());
+    }
+    let medians =
+        in_turn(rounds, 1, || script.run(subject, &mut theirs), || script.run(&mut Reference, &mut ours));
+    let steps = script.steps() as f64;
+    let each = Medians { theirs: medians.theirs / steps, ours: medians.ours / steps };
+    print_line("job step", script.nodes(), &each);
+    println!(
+        "whole job of {} nodes, {} steps: {name} {:.3} ms, reference {:.3} ms, ratio {:.2}",
+        script.nodes(),
+        script.steps(),
+        medians.theirs / 1e6,
+        medians.ours / 1e6,
+        medians.ratio()
+    );
+    Ok(())
+}
+
+fn print_line(name: &str, nodes: usize, medians: &Medians) {
+    println!("{name:<10}{nodes:>6}{:>14.1}{:>14.1}{:>8.2}", medians.theirs, medians.ours, medians.ratio());
+}

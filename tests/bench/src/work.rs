@@ -1,0 +1,145 @@
+//! A round of calls of one function. Every call begins with the same bytes:
+//! what a call changed is put back at once. Nothing allocates.
+
+use crate::fixture::{Fixture, PlacedStep};
+use differential::Implementation;
+use differential::driver::Step;
+use std::hint::black_box;
+
+/// The measured functions.
+pub const NAMES: [&str; 8] = ["check", "guard", "step", "hear", "pass", "simulate", "record", "central"];
+
+/// How often functions without events are called in a round.
+const CALLS: usize = 100;
+
+/// One side's work.
+pub struct Work {
+    function: &'static str,
+    fixture: Fixture,
+    buffer: [u8; 300],
+    out: Vec<u8>,
+    more: Vec<u8>,
+}
+
+impl Work {
+    /// Work for a function, on a copy of the fixture.
+    pub fn new(function: &'static str, fixture: &Fixture) -> Work {
+        let nodes = fixture.nodes;
+        Work {
+            function,
+            fixture: fixture.clone(),
+            buffer: [0; 300],
+            out: vec![0; nodes],
+            more: vec![0; nodes],
+        }
+    }
+
+    /// How many calls a round has.
+    pub fn calls(&self) -> usize {
+        match self.function {
+            "check" | "pass" | "record" => CALLS,
+            "simulate" => self.fixture.steps.len(),
+            _ => self.fixture.events.len(),
+        }
+    }
+
+    /// Makes all calls; answers a sum over the results.
+    pub fn run(&mut self, subject: &mut impl Implementation) -> u32 {
+        match self.function {
+            "check" => self.repeat(|work| subject.check(black_box(&work.fixture.plan))),
+            "pass" => self.repeat(|work| {
+                subject.pass(black_box(&work.fixture.plan), &work.fixture.answers, &mut work.out)
+            }),
+            "record" => self.repeat(|work| {
+                let fixture = &work.fixture;
+                subject.record(black_box(&fixture.plan), &fixture.state, &mut work.out, &mut work.more)
+            }),
+            "guard" => self.guards(subject),
+            "step" => self.steps(subject),
+            "hear" => self.hears(subject),
+            "simulate" => self.simulations(subject),
+            "central" => self.centrals(subject),
+            other => panic!("no work for {other}"),
+        }
+    }
+
+    fn repeat(&mut self, mut call: impl FnMut(&mut Work) -> u32) -> u32 {
+        (0..CALLS).fold(0, |sum, _| mix(sum, call(self)))
+    }
+
+    fn guards(&mut self, subject: &mut impl Implementation) -> u32 {
+        let plan = black_box(&self.fixture.plan);
+        let buffer = &mut self.buffer;
+        let call =
+            |sum, &(code, node, _): &(u32, u32, usize)| mix(sum, subject.guard(plan, code, node, buffer));
+        self.fixture.events.iter().fold(0, call)
+    }
+
+    fn steps(&mut self, subject: &mut impl Implementation) -> u32 {
+        self.on_rows(|plan, code, node, row| subject.step(plan, code, node, row))
+    }
+
+    fn hears(&mut self, subject: &mut impl Implementation) -> u32 {
+        self.on_rows(|plan, code, node, row| subject.hear(plan, code, node, row))
+    }
+
+    /// Each event at the row of its site.
+    fn on_rows(&mut self, mut call: impl FnMut(&[u8], u32, u32, &mut [u8]) -> u32) -> u32 {
+        let Fixture { plan, nodes, events, state, .. } = &mut self.fixture;
+        let mut sum = 0;
+        for &(code, node, site) in events.iter() {
+            let row = &mut state[site * *nodes..][..*nodes];
+            let before = row[node as usize];
+            sum = mix(sum, call(black_box(plan), code, node, row));
+            row[node as usize] = before;
+        }
+        sum
+    }
+
+    fn simulations(&mut self, subject: &mut impl Implementation) -> u32 {
+        let Fixture { plan, steps, state, .. } = &mut self.fixture;
+        let mut sum = 0;
+        for &PlacedStep { step: Step { code, node, site }, place } in steps.iter() {
+            let before = state[place];
+            sum = mix(sum, subject.simulate(black_box(plan), code, node, site, state));
+            state[place] = before;
+        }
+        sum
+    }
+
+    fn centrals(&mut self, subject: &mut impl Implementation) -> u32 {
+        let Fixture { plan, events, marks, notes, .. } = &mut self.fixture;
+        let mut sum = 0;
+        for &(code, node, _) in events.iter() {
+            let place = node as usize;
+            let before = (marks[place], notes[place]);
+            sum = mix(sum, subject.central(black_box(plan), code, node, marks, notes));
+            (marks[place], notes[place]) = before;
+        }
+        sum
+    }
+}
+
+/// Takes a result into a sum that depends on the order too.
+fn mix(sum: u32, result: u32) -> u32 {
+    sum.rotate_left(5) ^ result
+}
+
+#[cfg(test)]
+mod tests {
+    use super::*;
+    use differential::Reference;
+
+    /// A second round answers the same: every call found what the first one
+    /// had.
+    #[test]
+    fn rounds_are_alike() {
+        for function in NAMES {
+            let mut work = Work::new(function, &Fixture::new(40));
+            let state = work.fixture.state.clone();
+            let first = work.run(&mut Reference);
+            assert_eq!(work.run(&mut Reference), first, "{function}");
+            assert_eq!(work.fixture.state, state, "{function}");
+        }
+    }
+}

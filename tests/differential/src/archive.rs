@@ -1,0 +1,48 @@
+//! The C archive, and the program `rehearse` beside it.
+
+use crate::implementation::Implementation;
+use crate::program::Program;
+
+/// The archive's functions, and the program.
+pub struct Archive {
+    /// Runs the texts.
+    pub program: Program,
+}
+
+impl Implementation for Archive {
+    fn check(&mut self, plan: &[u8]) -> u32 {
+        vulcedar::check(plan)
+    }
+
+    fn guard(&mut self, plan: &[u8], code: u32, node: u32, buffer: &mut [u8]) -> u32 {
+        vulcedar::guard(plan, code, node, buffer)
+    }
+
+    fn step(&mut self, plan: &[u8], code: u32, node: u32, row: &mut [u8]) -> u32 {
+        vulcedar::step(plan, code, node, row)
+    }
+
+    fn hear(&mut self, plan: &[u8], code: u32, node: u32, row: &mut [u8]) -> u32 {
+        vulcedar::hear(plan, code, node, row)
+    }
+
+    fn pass(&mut self, plan: &[u8], answers: &[u8], marks: &mut [u8]) -> u32 {
+        vulcedar::pass(plan, answers, marks)
+    }
+
+    fn simulate(&mut self, plan: &[u8], code: u32, node: u32, site: u32, state: &mut [u8]) -> u32 {
+        vulcedar::simulate(plan, code, node, site, state)
+    }
+
+    fn record(&mut self, plan: &[u8], state: &[u8], marks: &mut [u8], classes: &mut [u8]) -> u32 {
+        vulcedar::record(plan, state, marks, classes)
+    }
+
+    fn central(&mut self, plan: &[u8], code: u32, node: u32, marks: &mut [u8], notes: &mut [u8]) -> u32 {
+        vulcedar::central(plan, code, node, marks, notes)
+    }
+
+    fn rehearse(&mut self, texts: &[Vec<u8>]) -> Vec<Vec<u8>> {
+        self.program.rehearse(texts)
+    }
+}

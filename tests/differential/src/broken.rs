@@ -1,0 +1,433 @@
+//! Copies of the reference with one mistake each. A comparison that can't
+//! tell them from the reference would be worth nothing.
+
+use crate::codes::*;
+use crate::driver::Tree;
+use crate::implementation::{Implementation, Reference};
+
+/// A mistake: those the document warns of, its worthless versions, and slips
+/// at the borders.
+#[derive(Clone, Copy, Debug, PartialEq, Eq)]
+pub enum Mistake {
+    /// A block commits as long as no child's abort was heard.
+    CommitUnlessAbortHeard,
+    /// A pick is decided and noted at the child, so that two can be picked.
+    PickAtTheChild,
+    /// A child that was turned down counts as running, so the xor never ends.
+    TurnedDownStillRuns,
+    /// A contingency's next child starts while the one before is only late.
+    ContingencyStartsEarly,
+    /// A child that has offered can fail.
+    OfferedMayFail,
+    /// The first event passes properly, then everything is said to pass.
+    PretendsAfterTheFirst,
+    /// The root's start marks the whole plan committed.
+    AllEndedAtTheRootsStart,
+    /// Every event is refused with 11, whatever was heard.
+    GuardNeverHolds,
+    /// One guard is written for all events.
+    SameGuardForAll,
+    /// Reports success but leaves the row alone.
+    SetsNothing,
+    /// No plan is good enough.
+    RefusesEveryPlan,
+    /// An and fails while children still run.
+    AndFailsAtOnce,
+    /// A conditional's second child starts on yes.
+    SecondBranchOnYes,
+    /// Numbers are cut to a byte, so that code 257 is a start.
+    NumbersCut,
+    /// The guard is tried before the bars.
+    GuardBeforeBars,
+    /// The site is left out of the result.
+    SiteLeftOut,
+    /// A message sets a bit for an event that doesn't apply.
+    HearsAnything,
+    /// A false message is believed.
+    FalseMessageBelieved,
+    /// A message is noted in its event's row instead of the hearer's.
+    MessageInTheWrongRow,
+    /// A child stands among its own siblings in a guard.
+    SelfAmongSiblings,
+    /// The rest of the guard's buffer is cleared.
+    GuardClearsTheRest,
+    /// A short buffer is noticed before a wrong event is.
+    ShortBufferFirst,
+    /// A refused pass has already written marks.
+    RefusedPassWrites,
+    /// The pass reads answers of nodes it doesn't reach.
+    AnswersReadEverywhere,
+    /// In the pass, an offer that isn't picked stays an offer.
+    LosersStayOffered,
+    /// The record puts offered before turned down.
+    OfferedBeforeTurnedDown,
+    /// Blocks are filed as tasks are.
+    BlocksAreFiled,
+    /// The central rule picks a second time.
+    CentralPicksTwice,
+    /// The central rule lets an and fail while children still run.
+    CentralAndFailsAtOnce,
+    /// One level more than there may be.
+    OneLevelMore,
+    /// Parents are looked at before kinds.
+    ParentsBeforeKinds,
+    /// A carriage return is overlooked in a text.
+    TextWithReturns,
+    /// A refused plan is reported before the rest of the text is read.
+    PlanBeforeText,
+}
+
+impl Mistake {
+    /// All mistakes; the first is number 1.
+    pub const ALL: [Mistake; 33] = [
+        Mistake::CommitUnlessAbortHeard,
+        Mistake::PickAtTheChild,
+        Mistake::TurnedDownStillRuns,
+        Mistake::ContingencyStartsEarly,
+        Mistake::OfferedMayFail,
+        Mistake::PretendsAfterTheFirst,
+        Mistake::AllEndedAtTheRootsStart,
+        Mistake::GuardNeverHolds,
+        Mistake::SameGuardForAll,
+        Mistake::SetsNothing,
+        Mistake::RefusesEveryPlan,
+        Mistake::AndFailsAtOnce,
+        Mistake::SecondBranchOnYes,
+        Mistake::NumbersCut,
+        Mistake::GuardBeforeBars,
+        Mistake::SiteLeftOut,
+        Mistake::HearsAnything,
+        Mistake::FalseMessageBelieved,
+        Mistake::MessageInTheWrongRow,
+        Mistake::SelfAmongSiblings,
+        Mistake::GuardClearsTheRest,
+        Mistake::ShortBufferFirst,
+        Mistake::RefusedPassWrites,
+        Mistake::AnswersReadEverywhere,
+        Mistake::LosersStayOffered,
+        Mistake::OfferedBeforeTurnedDown,
+        Mistake::BlocksAreFiled,
+        Mistake::CentralPicksTwice,
+        Mistake::CentralAndFailsAtOnce,
+        Mistake::OneLevelMore,
+        Mistake::ParentsBeforeKinds,
+        Mistake::TextWithReturns,
+        Mistake::PlanBeforeText,
+    ];
+}
+
+/// The reference with one mistake.
+pub struct Broken {
+    mistake: Mistake,
+    honest: Reference,
+    has_passed: bool,
+}
+
+impl Broken {
+    /// A copy with this mistake.
+    pub fn new(mistake: Mistake) -> Broken {
+        Broken { mistake, honest: Reference, has_passed: false }
+    }
+
+    fn cut(&self, number: u32) -> u32 {
+        if self.mistake == Mistake::NumbersCut { number & 0xff } else { number }
+    }
+
+    /// An event of a valid plan at a row of the right length.
+    fn event(&mut self, plan: &[u8], code: u32, node: u32, row: &mut [u8]) -> u32 {
+        let tree = Tree::new(plan);
+        let mut view = row.to_vec();
+        self.misread(&tree, code, node as usize, &mut view);
+        let result = self.honest.step(plan, code, node, &mut view);
+        let applies = matches!(number(result), 0 | 10 | 11);
+        let at = result & 0xff00;
+        match self.mistake {
+            Mistake::PickAtTheChild if applies && code == PICK => return pick_at_child(node, row),
+            Mistake::GuardNeverHolds if applies => return 11 | at,
+            Mistake::SetsNothing => return result,
+            Mistake::PretendsAfterTheFirst if applies && self.has_passed => return at,
+            Mistake::GuardBeforeBars if number(result) == 10 && !guard_holds(plan, code, node, row) => {
+                return 11 | at;
+            }
+            _ => {}
+        }
+        if number(result) == 0 {
+            self.has_passed = true;
+            row[node as usize] |= bit(code);
+        }
+        if self.mistake == Mistake::SiteLeftOut { result & !0xff00 } else { result }
+    }
+
+    /// What the mistake makes of a row before it decides.
+    fn misread(&self, tree: &Tree, code: u32, node: usize, view: &mut [u8]) {
+        let children = tree.children.get(node).map_or(&[][..], Vec::as_slice);
+        let is = |kind: u8| node < view.len() && tree.kind(node) == kind;
+        let aborted = children.iter().any(|&child| view[child] & bit(ABORT) != 0);
+        let finishing = matches!(code, COMMIT | OFFER);
+        match self.mistake {
+            Mistake::CommitUnlessAbortHeard if finishing && !aborted => {
+                children.iter().for_each(|&child| view[child] |= bit(COMMIT));
+            }
+            Mistake::TurnedDownStillRuns if finishing && is(XOR) => {
+                children.iter().for_each(|&child| view[child] &= !bit(TURNED_DOWN));
+            }
+            Mistake::AndFailsAtOnce if code == ABORT && is(AND) && aborted => {
+                children.iter().for_each(|&child| view[child] |= bit(COMMIT));
+            }
+            Mistake::OfferedMayFail if code == ABORT && node < view.len() => view[node] &= !bit(OFFER),
+            Mistake::ContingencyStartsEarly if code == START => {
+                if let Some((_, before)) = tree.before(node, CONTINGENCY)
+                    && view[before] & bit(COMMIT) == 0
+                {
+                    view[before] |= bit(ABORT);
+                }
+            }
+            Mistake::SecondBranchOnYes if code == START => {
+                if let Some((parent, _)) = tree.before(node, CONDITIONAL)
+                    && view[parent] & bit(YES) != 0
+                {
+                    view[parent] |= bit(NO);
+                }
+            }
+            _ => {}
+        }
+    }
+
+    /// A message of a valid plan, with a state of the right length, that the
+    /// reference answered with this result.
+    fn message(&self, plan: &[u8], step: [u32; 3], state: &mut [u8], result: u32) -> u32 {
+        let [code, node, site] = step.map(|number| number as usize);
+        let nodes = plan.len() / 2;
+        match (self.mistake, number(result)) {
+            (Mistake::FalseMessageBelieved, 12) => {
+                state[site * nodes + node] |= bit(code as u32);
+                0
+            }
+            (Mistake::MessageInTheWrongRow, 0) => {
+                let own = Tree::new(plan).site(code as u32, node);
+                state[site * nodes + node] &= !bit(code as u32);
+                state[own * nodes + node] |= bit(code as u32);
+                0
+            }
+            _ => result,
+        }
+    }
+}
+
+/// Reads the written guard against a row.
+fn guard_holds(plan: &[u8], code: u32, node: u32, row: &[u8]) -> bool {
+    let mut buffer = [0; 300];
+    let length = value(Reference.guard(plan, code, node, &mut buffer)) as usize;
+    let mut clauses = &buffer[1..length];
+    while let Some((&events, rest)) = clauses.split_first() {
+        let (clause, rest) = rest.split_at(2 * usize::from(events));
+        let is_heard = |event: &[u8]| row[usize::from(event[1])] & bit(u32::from(event[0])) != 0;
+        if !clause.chunks(2).any(is_heard) {
+            return false;
+        }
+        clauses = rest;
+    }
+    true
+}
+
+/// A pick by the child's own row, as if it were the child's business.
+fn pick_at_child(node: u32, row: &mut [u8]) -> u32 {
+    let own = &mut row[node as usize];
+    let at = node << 8;
+    if *own & bit(PICK) != 0 {
+        10 | at
+    } else if *own & bit(OFFER) == 0 {
+        11 | at
+    } else {
+        *own |= bit(PICK);
+        at
+    }
+}
+
+impl Implementation for Broken {
+    fn check(&mut self, plan: &[u8]) -> u32 {
+        let honest = self.honest.check(plan);
+        match self.mistake {
+            Mistake::RefusesEveryPlan => 1,
+            Mistake::OneLevelMore if honest == 6 && levels(plan) == 33 => 0,
+            Mistake::ParentsBeforeKinds if honest == 2 && !parents_are_right(plan) => 3,
+            _ => honest,
+        }
+    }
+
+    fn guard(&mut self, plan: &[u8], code: u32, node: u32, buffer: &mut [u8]) -> u32 {
+        let before = buffer.len();
+        let result = self.honest.guard(plan, self.cut(code), self.cut(node), buffer);
+        let length = value(result) as usize;
+        match self.mistake {
+            Mistake::SameGuardForAll if number(result) == 0 && before >= 4 => {
+                buffer[..4].copy_from_slice(&[1, 1, 1, node as u8]);
+                4 << 16
+            }
+            Mistake::SelfAmongSiblings if number(result) == 0 && code == TURNED_DOWN => {
+                buffer[4] += 1;
+                if before > length + 1 {
+                    buffer[length..][..2].copy_from_slice(&[7, node as u8]);
+                }
+                result + (2 << 16)
+            }
+            Mistake::GuardClearsTheRest if number(result) == 0 => {
+                buffer[length..].fill(0);
+                result
+            }
+            Mistake::ShortBufferFirst if matches!(number(result), 8 | 9) && before == 0 => 7,
+            _ => result,
+        }
+    }
+
+    fn step(&mut self, plan: &[u8], code: u32, node: u32, row: &mut [u8]) -> u32 {
+        let (code, node) = (self.cut(code), self.cut(node));
+        let nodes = plan.len() / 2;
+        let is_in_range = (1..=8).contains(&code) && (node as usize) < nodes;
+        if self.honest.check(plan) == 0 && row.len() == nodes && is_in_range {
+            return self.event(plan, code, node, row);
+        }
+        self.honest.step(plan, code, node, row)
+    }
+
+    fn hear(&mut self, plan: &[u8], code: u32, node: u32, row: &mut [u8]) -> u32 {
+        let result = self.honest.hear(plan, self.cut(code), self.cut(node), row);
+        if self.mistake == Mistake::HearsAnything && number(result) == 9 {
+            row[node as usize] |= bit(code);
+            return 0;
+        }
+        result
+    }
+
+    fn pass(&mut self, plan: &[u8], answers: &[u8], marks: &mut [u8]) -> u32 {
+        if self.mistake == Mistake::AnswersReadEverywhere
+            && self.honest.check(plan) == 0
+            && answers.len() == plan.len() / 2
+            && marks.len() == answers.len()
+            && !plan
+                .chunks(2)
+                .zip(answers)
+                .all(|(node, answer)| !matches!(node[0], TASK | CONDITIONAL) || matches!(answer, 1 | 2))
+        {
+            return 13;
+        }
+        let result = self.honest.pass(plan, answers, marks);
+        match self.mistake {
+            Mistake::RefusedPassWrites if matches!(number(result), 13 | 14) => marks[0] = 4,
+            Mistake::LosersStayOffered if result == 0 => {
+                marks.iter_mut().filter(|mark| **mark == 5).for_each(|mark| *mark = 2);
+            }
+            _ => {}
+        }
+        result
+    }
+
+    fn simulate(&mut self, plan: &[u8], code: u32, node: u32, site: u32, state: &mut [u8]) -> u32 {
+        let (code, node) = (self.cut(code), self.cut(node));
+        let nodes = plan.len() / 2;
+        let is_valid = self.honest.check(plan) == 0 && state.len() == nodes * nodes;
+        if !is_valid || (node as usize) >= nodes || !(1..=8).contains(&code) {
+            return self.honest.simulate(plan, code, node, site, state);
+        }
+        if site != HAPPENS {
+            let result = self.honest.simulate(plan, code, node, site, state);
+            return self.message(plan, [code, node, site], state, result);
+        }
+        let at_child = self.mistake == Mistake::PickAtTheChild;
+        let own = if at_child { node as usize } else { Tree::new(plan).site(code, node as usize) };
+        let result = self.event(plan, code, node, &mut state[own * nodes..][..nodes]);
+        let root_starts = number(result) == 0 && code == START && node == 0;
+        if root_starts && self.mistake == Mistake::AllEndedAtTheRootsStart {
+            (0..nodes).for_each(|node| state[node * nodes + node] |= bit(COMMIT));
+        }
+        result
+    }
+
+    fn record(&mut self, plan: &[u8], state: &[u8], marks: &mut [u8], classes: &mut [u8]) -> u32 {
+        let result = self.honest.record(plan, state, marks, classes);
+        if result != 0 {
+            return result;
+        }
+        match self.mistake {
+            Mistake::OfferedBeforeTurnedDown => {
+                marks.iter_mut().filter(|mark| **mark == 5).for_each(|mark| *mark = 2);
+            }
+            Mistake::BlocksAreFiled => {
+                let filed = [0, 3, 3, 1, 2, 2];
+                classes.iter_mut().zip(marks).for_each(|(class, mark)| *class = filed[usize::from(*mark)]);
+            }
+            _ => {}
+        }
+        result
+    }
+
+    fn central(&mut self, plan: &[u8], code: u32, node: u32, marks: &mut [u8], notes: &mut [u8]) -> u32 {
+        let (code, node) = (self.cut(code), self.cut(node));
+        let (mut seen_marks, mut seen_notes) = (marks.to_vec(), notes.to_vec());
+        match self.mistake {
+            Mistake::CentralPicksTwice if code == PICK => {
+                seen_notes.iter_mut().for_each(|note| *note &= !bit(PICK));
+            }
+            Mistake::CentralAndFailsAtOnce if code == ABORT => {
+                fail_children_of_and(plan, node as usize, &mut seen_marks);
+            }
+            _ => return self.honest.central(plan, code, node, marks, notes),
+        }
+        let result = self.honest.central(plan, code, node, &mut seen_marks, &mut seen_notes);
+        if value(result) == 1 {
+            marks[node as usize] = seen_marks[node as usize];
+            notes[node as usize] |= seen_notes[node as usize];
+        }
+        result
+    }
+
+    fn rehearse(&mut self, texts: &[Vec<u8>]) -> Vec<Vec<u8>> {
+        let mistake = self.mistake;
+        let one = |text: &Vec<u8>| match mistake {
+            Mistake::TextWithReturns => {
+                let without: Vec<u8> = text.iter().copied().filter(|&byte| byte != b'\r').collect();
+                reference::rehearse(&without)
+            }
+            Mistake::PlanBeforeText => plan_before_text(text),
+            _ => reference::rehearse(text),
+        };
+        texts.iter().map(one).collect()
+    }
+}
+
+/// If one child of an and has failed, makes the others look ended.
+fn fail_children_of_and(plan: &[u8], node: usize, marks: &mut [u8]) {
+    if plan.get(2 * node) != Some(&AND) {
+        return;
+    }
+    let nodes = plan.len().min(2 * marks.len()) / 2;
+    let is_child = |child: &usize| usize::from(plan[2 * child + 1]) == node;
+    let children: Vec<usize> = (node + 1..nodes).filter(is_child).collect();
+    if children.iter().any(|&child| marks[child] == 4) {
+        children.iter().for_each(|&child| marks[child] = 4);
+    }
+}
+
+/// Reports a refused plan although the text goes wrong further on.
+fn plan_before_text(text: &[u8]) -> Vec<u8> {
+    let divider = text.windows(4).position(|window| window == b"\n--\n");
+    let first = divider.map(|place| reference::rehearse(&text[..place + 4]));
+    match first {
+        Some(output) if output.len() == 3 && output < b"07".to_vec() => output,
+        _ => reference::rehearse(text),
+    }
+}
+
+/// How many levels a plan has whose parents are right.
+fn levels(plan: &[u8]) -> usize {
+    let mut level = vec![1; plan.len() / 2];
+    for node in 1..level.len() {
+        level[node] = level[usize::from(plan[2 * node + 1])] + 1;
+    }
+    level.into_iter().max().unwrap_or(0)
+}
+
+fn parents_are_right(plan: &[u8]) -> bool {
+    let mut parents = plan.iter().skip(1).step_by(2).enumerate();
+    parents.all(|(node, &parent)| if node == 0 { parent == 0xff } else { usize::from(parent) < node })
+}

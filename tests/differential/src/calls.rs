@@ -1,0 +1,315 @@
+//! Single calls on anything: damaged plans, wrong lengths, strange numbers,
+//! and rows, states, marks and notes that no rehearsal leads to.
+
+use crate::codes::*;
+use crate::driver::{STRANGE, Tree};
+use crate::implementation::Implementation;
+use crate::plans;
+use crate::random::Random;
+use crate::trial::Trial;
+
+/// More than the longest guard.
+const LONG_BUFFER: usize = 300;
+
+/// Plans that are mostly refused, given to every function.
+pub fn damaged_plans<S: Implementation, R: Implementation>(trial: &mut Trial<S, R>, random: &mut Random) {
+    for _ in 0..20 {
+        let plan = plans::damaged(random);
+        trial.check(&plan);
+        let nodes = plan.len() / 2;
+        let (code, node) = event(random, nodes);
+        let site = if random.chance(50) { HAPPENS } else { any_node(random, nodes) };
+        let (one, two) = (length(random, nodes), length(random, nodes));
+        let (one, two) = (random.bytes(one), random.bytes(two));
+        let state = state_bytes(random, nodes);
+        trial.guard(&plan, code, node, &one);
+        trial.step(&plan, code, node, &one);
+        trial.hear(&plan, code, node, &one);
+        trial.pass(&plan, &one, &two);
+        trial.simulate(&plan, code, node, site, &state);
+        trial.record(&plan, &state, &one, &two);
+        trial.central(&plan, code, node, &one, &two);
+    }
+}
+
+/// Guards of any event, into buffers of any length around the right one.
+pub fn guards<S: Implementation, R: Implementation>(
+    trial: &mut Trial<S, R>,
+    random: &mut Random,
+    plan: &[u8],
+) {
+    let tree = Tree::new(plan);
+    trial.check(plan);
+    for _ in 0..60 {
+        let (code, node) = apt_event(random, &tree);
+        let long = random.bytes(LONG_BUFFER);
+        let exact = value(trial.guard(plan, code, node, &long)) as usize;
+        let other = random.below(exact + 5);
+        for length in [exact, exact.saturating_sub(1), 0, other] {
+            trial.guard(plan, code, node, &long[..length]);
+        }
+    }
+}
+
+/// A site's step and hear on any row.
+pub fn rows<S: Implementation, R: Implementation>(trial: &mut Trial<S, R>, random: &mut Random, plan: &[u8]) {
+    let nodes = plan.len() / 2;
+    let tree = Tree::new(plan);
+    for _ in 0..100 {
+        let (code, node) = apt_event(random, &tree);
+        let mut row = heard(random, nodes);
+        if random.chance(60) {
+            favour(random, &tree, &mut row, code, node);
+        }
+        trial.step(plan, code, node, &row);
+        if random.chance(25) {
+            trial.hear(plan, code, node, &row);
+        }
+    }
+}
+
+/// Passes with answers that fit, nearly fit or don't fit at all.
+pub fn passes<S: Implementation, R: Implementation>(
+    trial: &mut Trial<S, R>,
+    random: &mut Random,
+    plan: &[u8],
+) {
+    let nodes = plan.len() / 2;
+    let tree = Tree::new(plan);
+    for _ in 0..20 {
+        let marks = random.bytes(nodes);
+        let mut answers = fitting_answers(random, &tree);
+        trial.pass(plan, &answers, &marks);
+        for _ in 0..random.between(1, 3) {
+            let node = random.below(nodes);
+            answers[node] = random.one_of(&[0, 1, 2, 3, 4, 33, 255]);
+            trial.pass(plan, &answers, &marks);
+        }
+        let wild: Vec<u8> = (0..nodes).map(|_| random.one_of(&[0, 1, 1, 2, 2, 3, 9])).collect();
+        trial.pass(plan, &wild, &marks);
+    }
+}
+
+/// The central rule on any marks and notes.
+pub fn views<S: Implementation, R: Implementation>(
+    trial: &mut Trial<S, R>,
+    random: &mut Random,
+    plan: &[u8],
+) {
+    let nodes = plan.len() / 2;
+    let tree = Tree::new(plan);
+    for _ in 0..60 {
+        let (code, node) = apt_event(random, &tree);
+        let mut marks = some_marks(random, nodes);
+        let notes = some_notes(random, nodes);
+        if let Some(mark) = marks.get_mut(node as usize)
+            && random.chance(50)
+        {
+            *mark = random.one_of(&[0, 1, 1, 2]);
+        }
+        trial.central(plan, code, node, &marks, &notes);
+    }
+}
+
+/// A rehearsal's step, and the record, on any state.
+pub fn states<S: Implementation, R: Implementation>(
+    trial: &mut Trial<S, R>,
+    random: &mut Random,
+    plan: &[u8],
+) {
+    let nodes = plan.len() / 2;
+    let tree = Tree::new(plan);
+    for _ in 0..20 {
+        let state = heard(random, nodes * nodes);
+        for _ in 0..4 {
+            let (code, node) = apt_event(random, &tree);
+            let site = if random.chance(50) { HAPPENS } else { any_node(random, nodes) };
+            trial.simulate(plan, code, node, site, &state);
+        }
+        let (marks, classes) = (random.bytes(nodes), random.bytes(nodes));
+        trial.record(plan, &state, &marks, &classes);
+    }
+}
+
+/// Every buffer with a wrong length, alone and together with strange numbers.
+pub fn lengths<S: Implementation, R: Implementation>(
+    trial: &mut Trial<S, R>,
+    random: &mut Random,
+    plan: &[u8],
+) {
+    let nodes = plan.len() / 2;
+    for _ in 0..20 {
+        let (code, node) = event(random, nodes);
+        let site = if random.chance(50) { HAPPENS } else { any_node(random, nodes) };
+        let (one, two) = (length(random, nodes), length(random, nodes));
+        let (one, two) = (random.bytes(one), random.bytes(two));
+        let state = state_bytes(random, nodes);
+        trial.step(plan, code, node, &one);
+        trial.hear(plan, code, node, &one);
+        trial.pass(plan, &one, &two);
+        trial.simulate(plan, code, node, site, &state);
+        trial.record(plan, &state, &one, &two);
+        trial.central(plan, code, node, &one, &two);
+    }
+}
+
+/// An event that mostly applies.
+fn apt_event(random: &mut Random, tree: &Tree) -> (u32, u32) {
+    let nodes = tree.children.len();
+    if random.chance(25) {
+        return event(random, nodes);
+    }
+    let node = random.below(nodes);
+    let codes: Vec<u32> = (1..=8).filter(|&code| tree.applies(code, node)).collect();
+    (random.one_of(&codes), node as u32)
+}
+
+/// A code and a node, mostly ones that exist.
+fn event(random: &mut Random, nodes: usize) -> (u32, u32) {
+    let code = if random.chance(92) { random.between(1, 8) as u32 } else { random.one_of(&STRANGE) };
+    (code, any_node(random, nodes))
+}
+
+/// A node or site, mostly one that exists.
+fn any_node(random: &mut Random, nodes: usize) -> u32 {
+    if nodes > 0 && random.chance(92) {
+        return random.below(nodes) as u32;
+    }
+    let nodes = nodes as u32;
+    match random.below(4) {
+        0 => nodes,
+        1 => nodes + 1,
+        2 => 256 + random.below(8) as u32,
+        _ => random.one_of(&STRANGE),
+    }
+}
+
+/// A length for a buffer of one byte a node; often the right one.
+fn length(random: &mut Random, nodes: usize) -> usize {
+    match random.below(8) {
+        0 => 0,
+        1 => nodes.saturating_sub(1),
+        2 => nodes + 1,
+        3 => 2 * nodes,
+        4 => random.below(nodes + 300),
+        _ => nodes,
+    }
+}
+
+/// Bytes for a state; often of the right length.
+fn state_bytes(random: &mut Random, nodes: usize) -> Vec<u8> {
+    let right = nodes.min(200) * nodes.min(200);
+    let length = match random.below(8) {
+        0 => 0,
+        1 => nodes,
+        2 => right.saturating_sub(1),
+        3 => right + 1,
+        4 => right + nodes,
+        _ => right,
+    };
+    heard(random, length)
+}
+
+/// Row bytes of one of several densities.
+fn heard(random: &mut Random, length: usize) -> Vec<u8> {
+    let density = random.one_of(&[0, 10, 50, 90, 100]);
+    let mut byte = || match density {
+        0 => 0,
+        10 => random.byte() & random.byte() & random.byte(),
+        50 => random.byte(),
+        90 => random.byte() | random.byte() | random.byte(),
+        _ => 0xff,
+    };
+    (0..length).map(|_| byte()).collect()
+}
+
+/// Changes a row so that the event may pass, or just not: those around have
+/// mostly ended, and little bars it.
+fn favour(random: &mut Random, tree: &Tree, row: &mut [u8], code: u32, node: u32) {
+    let node = node as usize;
+    if node >= row.len() {
+        return;
+    }
+    let end = random.one_of(&[bit(COMMIT), bit(ABORT), bit(COMMIT) | bit(ABORT), bit(OFFER)]);
+    for (other, byte) in row.iter_mut().enumerate().filter(|&(other, _)| tree.is_near(node, other)) {
+        *byte |= bit(START) | if random.chance(95) { end } else { 0 };
+        if code == PICK && other != node && random.chance(95) {
+            *byte &= !bit(PICK);
+        }
+    }
+    row[node] = match code {
+        START => 0,
+        PICK | TURNED_DOWN => bit(START) | bit(OFFER),
+        COMMIT => bit(START) | bit(PICK),
+        _ => bit(START),
+    };
+    if random.chance(20) {
+        row[node] ^= bit(random.between(1, 8) as u32);
+    }
+}
+
+/// Answers with which the pass is accepted; anything where it doesn't look.
+fn fitting_answers(random: &mut Random, tree: &Tree) -> Vec<u8> {
+    let nodes = tree.children.len();
+    let mut answers = random.bytes(nodes);
+    let failing = random.one_of(&[0, 5, 20, 50]);
+    settle(random, tree, failing, &mut answers, 0);
+    answers
+}
+
+/// Settles a node with answers as it likes; answers whether it works.
+fn settle(random: &mut Random, tree: &Tree, failing: usize, answers: &mut [u8], node: usize) -> bool {
+    let children = &tree.children[node];
+    let mut each = |child: usize, random: &mut Random| settle(random, tree, failing, answers, child);
+    match tree.kind(node) {
+        TASK => {
+            let works = !random.chance(failing);
+            answers[node] = if works { 1 } else { 2 };
+            works
+        }
+        SERIAL => children.iter().all(|&child| each(child, random)),
+        CONTINGENCY => children.iter().any(|&child| each(child, random)),
+        CONDITIONAL => {
+            let place = random.below(2);
+            let works = each(children[place], random);
+            answers[node] = place as u8 + 1;
+            works
+        }
+        kind => {
+            let works: Vec<bool> = children.iter().map(|&child| each(child, random)).collect();
+            let offers: Vec<usize> = (0..works.len()).filter(|&place| works[place]).collect();
+            if kind == XOR {
+                answers[node] = if offers.is_empty() { 0 } else { random.one_of(&offers) as u8 + 1 };
+            }
+            if kind == AND { offers.len() == works.len() } else { !offers.is_empty() }
+        }
+    }
+}
+
+/// Marks of one of several styles; bytes above 5 are marks too.
+fn some_marks(random: &mut Random, nodes: usize) -> Vec<u8> {
+    let from: &[u8] = random.one_of(&[
+        &[0, 1, 2, 3, 4, 5][..],
+        &[1, 3],
+        &[1, 4],
+        &[3, 3, 3, 4],
+        &[4, 4, 4, 3],
+        &[3, 4, 5],
+        &[1, 2, 2],
+        &[0, 1, 2, 3, 4, 5, 6, 7, 8, 100, 127, 128, 255],
+    ]);
+    (0..nodes).map(|_| random.one_of(from)).collect()
+}
+
+/// Notes of one of several styles; bits of other codes mean nothing.
+fn some_notes(random: &mut Random, nodes: usize) -> Vec<u8> {
+    let (yes, no, pick) = (bit(YES), bit(NO), bit(PICK));
+    let from: &[u8] = match random.below(5) {
+        0 => &[0],
+        1 => &[0, 0, 0, 0, 0, pick],
+        2 => &[yes, no, yes | no, 0],
+        3 => &[yes | pick, no | pick, 0, pick, yes, no],
+        _ => return random.bytes(nodes),
+    };
+    (0..nodes).map(|_| random.one_of(from)).collect()
+}

@@ -1,0 +1,67 @@
+//! What is compared: the eight functions and the program.
+
+use reference::exported;
+
+/// An implementation of the rules, behind the interface of the C archive.
+/// Results are packed in the same way.
+pub trait Implementation {
+    /// Checks a plan.
+    fn check(&mut self, plan: &[u8]) -> u32;
+    /// Writes a guard.
+    fn guard(&mut self, plan: &[u8], code: u32, node: u32, buffer: &mut [u8]) -> u32;
+    /// An event at its site.
+    fn step(&mut self, plan: &[u8], code: u32, node: u32, row: &mut [u8]) -> u32;
+    /// A message into a site's row.
+    fn hear(&mut self, plan: &[u8], code: u32, node: u32, row: &mut [u8]) -> u32;
+    /// The single pass.
+    fn pass(&mut self, plan: &[u8], answers: &[u8], marks: &mut [u8]) -> u32;
+    /// A step of a rehearsal.
+    fn simulate(&mut self, plan: &[u8], code: u32, node: u32, site: u32, state: &mut [u8]) -> u32;
+    /// The end record.
+    fn record(&mut self, plan: &[u8], state: &[u8], marks: &mut [u8], classes: &mut [u8]) -> u32;
+    /// The central rule.
+    fn central(&mut self, plan: &[u8], code: u32, node: u32, marks: &mut [u8], notes: &mut [u8]) -> u32;
+    /// What the program prints for each of these texts.
+    fn rehearse(&mut self, texts: &[Vec<u8>]) -> Vec<Vec<u8>>;
+}
+
+/// The reference itself.
+pub struct Reference;
+
+impl Implementation for Reference {
+    fn check(&mut self, plan: &[u8]) -> u32 {
+        exported::check(plan)
+    }
+
+    fn guard(&mut self, plan: &[u8], code: u32, node: u32, buffer: &mut [u8]) -> u32 {
+        exported::guard(plan, code, node, buffer)
+    }
+
+    fn step(&mut self, plan: &[u8], code: u32, node: u32, row: &mut [u8]) -> u32 {
+        exported::step(plan, code, node, row)
+    }
+
+    fn hear(&mut self, plan: &[u8], code: u32, node: u32, row: &mut [u8]) -> u32 {
+        exported::hear(plan, code, node, row)
+    }
+
+    fn pass(&mut self, plan: &[u8], answers: &[u8], marks: &mut [u8]) -> u32 {
+        exported::pass(plan, answers, marks)
+    }
+
+    fn simulate(&mut self, plan: &[u8], code: u32, node: u32, site: u32, state: &mut [u8]) -> u32 {
+        exported::simulate(plan, code, node, site, state)
+    }
+
+    fn record(&mut self, plan: &[u8], state: &[u8], marks: &mut [u8], classes: &mut [u8]) -> u32 {
+        exported::record(plan, state, marks, classes)
+    }
+
+    fn central(&mut self, plan: &[u8], code: u32, node: u32, marks: &mut [u8], notes: &mut [u8]) -> u32 {
+        exported::central(plan, code, node, marks, notes)
+    }
+
+    fn rehearse(&mut self, texts: &[Vec<u8>]) -> Vec<Vec<u8>> {
+        texts.iter().map(|text| reference::rehearse(text)).collect()
+    }
+}

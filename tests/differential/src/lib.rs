@@ -1,0 +1,31 @@
+//! Compares an implementation of the rules with the reference.
+//!
+//! The implementation under trial is called the *subject*. Everything is
+//! drawn from a seed, so every run can be repeated.
+//!
+//! * [`plans`], [`driver`] and [`texts`] make plans, rehearsal steps and
+//!   rehearsal texts.
+//! * [`trial`] makes one call on both sides and compares all that can be seen.
+//! * [`calls`] tries single calls, [`job`] whole rehearsals, [`texts`] the
+//!   program; [`run`] puts them in turn.
+//! * [`broken`] has copies of the reference with one mistake each, to show
+//!   that the comparison can fail.
+
+#[cfg(feature = "archive")]
+pub mod archive;
+pub mod broken;
+pub mod calls;
+pub mod codes;
+pub mod driver;
+pub mod implementation;
+pub mod job;
+pub mod lent;
+pub mod plans;
+pub mod program;
+pub mod random;
+pub mod run;
+pub mod tally;
+pub mod texts;
+pub mod trial;
+
+pub use implementation::{Implementation, Reference};

@@ -1,0 +1,112 @@
+//! A whole run: its parts in turn, each with random numbers of its own, so
+//! that one part can be repeated alone.
+
+use crate::implementation::{Implementation, Reference};
+use crate::plans;
+use crate::random::Random;
+use crate::tally::Tally;
+use crate::trial::Trial;
+use crate::{calls, job, texts};
+
+/// Texts in one part of a run.
+const TEXTS_IN_A_PART: usize = 64;
+/// Where the parts with texts begin to be numbered.
+const FIRST_TEXT_PART: u64 = 1 << 40;
+
+/// What to run.
+#[derive(Clone, Copy)]
+pub struct Options {
+    /// All random numbers come from this.
+    pub seed: u64,
+    /// At least so many calls of simulate and step.
+    pub steps: u64,
+    /// At least so many texts.
+    pub texts: u64,
+    /// Stops once so many differences are found.
+    pub enough: u64,
+    /// Just this part, if given.
+    pub only: Option<u64>,
+}
+
+impl Default for Options {
+    fn default() -> Options {
+        Options { seed: 1, steps: 6_000_000, texts: 4_000, enough: 10, only: None }
+    }
+}
+
+/// Compares a subject with the reference.
+pub fn run(subject: impl Implementation, options: Options) -> Tally {
+    run_against(subject, Reference, options)
+}
+
+/// Compares a subject with something else in the reference's place. What is
+/// held against the rules themselves doesn't depend on it.
+pub fn run_against(subject: impl Implementation, reference: impl Implementation, options: Options) -> Tally {
+    let mut trial = Trial::new(subject, reference);
+    if let Some(part) = options.only {
+        run_part(&mut trial, options.seed, part);
+        return trial.tally;
+    }
+    let mut part = 0;
+    while trial.tally.steps() < options.steps && trial.tally.differences() < options.enough {
+        run_part(&mut trial, options.seed, part);
+        part += 1;
+    }
+    let mut part = FIRST_TEXT_PART;
+    while trial.tally.texts < options.texts && trial.tally.differences() < options.enough {
+        run_part(&mut trial, options.seed, part);
+        part += 1;
+    }
+    trial.tally
+}
+
+fn run_part<S: Implementation, R: Implementation>(trial: &mut Trial<S, R>, seed: u64, part: u64) {
+    let random = &mut Random::part(seed, part);
+    trial.tally.part = part;
+    if part >= FIRST_TEXT_PART {
+        return texts::run(trial, random, TEXTS_IN_A_PART);
+    }
+    let plan = if part % 128 == 39 { large_plan(random) } else { any_plan(random) };
+    match part % 32 {
+        0 | 16 => calls::damaged_plans(trial, random),
+        1 | 17 => calls::guards(trial, random, &plan),
+        2 | 18 => calls::rows(trial, random, &plan),
+        3 | 19 => calls::passes(trial, random, &plan),
+        4 | 20 => calls::views(trial, random, &plan),
+        5 | 21 => calls::states(trial, random, &plan),
+        6 => calls::lengths(trial, random, &plan),
+        7 => job::rehearse(trial, random, &plan),
+        8 | 9 => jobs(trial, random, 20, 60, 1),
+        10..=15 => jobs(trial, random, 8, 20, 1),
+        _ => jobs(trial, random, 1, 8, 4),
+    }
+}
+
+/// Rehearsals of plans between two sizes.
+fn jobs<S: Implementation, R: Implementation>(
+    trial: &mut Trial<S, R>,
+    random: &mut Random,
+    least: usize,
+    most: usize,
+    count: usize,
+) {
+    for _ in 0..count {
+        let nodes = random.between(least, most);
+        let plan = plans::of_size(random, nodes);
+        job::rehearse(trial, random, &plan);
+    }
+}
+
+/// A plan for single calls: mostly small, all sizes.
+fn any_plan(random: &mut Random) -> Vec<u8> {
+    let most = random.one_of(&[2, 4, 8, 8, 16, 16, 60, 160]);
+    plans::up_to(random, most)
+}
+
+fn large_plan(random: &mut Random) -> Vec<u8> {
+    if random.chance(30) {
+        return plans::largest(random);
+    }
+    let nodes = random.between(80, 160);
+    plans::of_size(random, nodes)
+}

@@ -1,0 +1,242 @@
+//! One call on both sides. Compared are the results, every lent byte, the
+//! canaries around them, and what the rules say about bytes that stay: a
+//! refused call leaves all, a passed step sets one bit.
+
+use crate::codes::{HAPPENS, PICK, number, value};
+use crate::implementation::Implementation;
+use crate::lent::{Lent, Pair};
+use crate::tally::{Function, Tally};
+
+/// Both sides, and what has been counted.
+pub struct Trial<S, R> {
+    /// The implementation under trial.
+    pub subject: S,
+    /// What it is compared with.
+    pub reference: R,
+    /// The counts.
+    pub tally: Tally,
+    plan: Lent,
+    read: Lent,
+    one: Pair,
+    two: Pair,
+}
+
+/// A call's numbers, for describing it.
+struct Call<'a> {
+    function: Function,
+    plan: &'a [u8],
+    numbers: &'a [u32],
+    lent: &'a [&'a [u8]],
+}
+
+impl<S: Implementation, R: Implementation> Trial<S, R> {
+    /// A trial with nothing counted yet.
+    pub fn new(subject: S, reference: R) -> Trial<S, R> {
+        Trial {
+            subject,
+            reference,
+            tally: Tally::default(),
+            plan: Lent::default(),
+            read: Lent::default(),
+            one: Pair::default(),
+            two: Pair::default(),
+        }
+    }
+
+    /// Checks a plan; answers the reference's result, as all these do.
+    pub fn check(&mut self, plan: &[u8]) -> u32 {
+        self.plan.load(plan);
+        let theirs = self.subject.check(self.plan.bytes());
+        let ours = self.reference.check(plan);
+        let call = Call { function: Function::Check, plan, numbers: &[], lent: &[] };
+        self.judge(call, ours, theirs, true);
+        ours
+    }
+
+    /// Writes a guard to a buffer that holds these bytes.
+    pub fn guard(&mut self, plan: &[u8], code: u32, node: u32, buffer: &[u8]) -> u32 {
+        self.plan.load(plan);
+        self.one.load(buffer);
+        let theirs = self.subject.guard(self.plan.bytes(), code, node, self.one.subject.bytes_mut());
+        let ours = self.reference.guard(plan, code, node, &mut self.one.reference);
+        let length = value(ours) as usize;
+        let rest_stays = self.one.subject.bytes()[length..] == buffer[length..];
+        let same = self.one.agrees() && rest_stays;
+        let call = Call { function: Function::Guard, plan, numbers: &[code, node], lent: &[buffer] };
+        self.judge(call, ours, theirs, same);
+        ours
+    }
+
+    /// An event at its site.
+    pub fn step(&mut self, plan: &[u8], code: u32, node: u32, row: &[u8]) -> u32 {
+        self.plan.load(plan);
+        self.one.load(row);
+        let theirs = self.subject.step(self.plan.bytes(), code, node, self.one.subject.bytes_mut());
+        let ours = self.reference.step(plan, code, node, &mut self.one.reference);
+        let same = is_bit_set(&mut self.one, ours, code, node as usize);
+        let call = Call { function: Function::Step, plan, numbers: &[code, node], lent: &[row] };
+        self.judge(call, ours, theirs, same);
+        ours
+    }
+
+    /// A message into a row.
+    pub fn hear(&mut self, plan: &[u8], code: u32, node: u32, row: &[u8]) -> u32 {
+        self.plan.load(plan);
+        self.one.load(row);
+        let theirs = self.subject.hear(self.plan.bytes(), code, node, self.one.subject.bytes_mut());
+        let ours = self.reference.hear(plan, code, node, &mut self.one.reference);
+        let same = is_bit_set(&mut self.one, ours, code, node as usize);
+        let call = Call { function: Function::Hear, plan, numbers: &[code, node], lent: &[row] };
+        self.judge(call, ours, theirs, same);
+        ours
+    }
+
+    /// The single pass, into marks that hold these bytes; answers the
+    /// subject's marks too.
+    pub fn pass(&mut self, plan: &[u8], answers: &[u8], marks: &[u8]) -> (u32, &[u8]) {
+        self.plan.load(plan);
+        self.read.load(answers);
+        self.one.load(marks);
+        let theirs = self.subject.pass(self.plan.bytes(), self.read.bytes(), self.one.subject.bytes_mut());
+        let ours = self.reference.pass(plan, answers, &mut self.one.reference);
+        let refused_leaves = number(ours) == 0 || self.one.is_untouched();
+        let same = self.one.agrees() && refused_leaves && self.read.is_still(answers);
+        let call = Call { function: Function::Pass, plan, numbers: &[], lent: &[answers, marks] };
+        self.judge(call, ours, theirs, same);
+        (ours, self.one.subject.bytes())
+    }
+
+    /// The end record of a state, into marks and classes that hold these
+    /// bytes; answers the subject's marks and classes too.
+    pub fn record(&mut self, plan: &[u8], state: &[u8], marks: &[u8], classes: &[u8]) -> (u32, &[u8], &[u8]) {
+        self.plan.load(plan);
+        self.read.load(state);
+        self.one.load(marks);
+        self.two.load(classes);
+        let (subject_marks, subject_classes) = (&mut self.one.subject, &mut self.two.subject);
+        let theirs = self.subject.record(
+            self.plan.bytes(),
+            self.read.bytes(),
+            subject_marks.bytes_mut(),
+            subject_classes.bytes_mut(),
+        );
+        let ours = self.reference.record(plan, state, &mut self.one.reference, &mut self.two.reference);
+        let refused_leaves = number(ours) == 0 || (self.one.is_untouched() && self.two.is_untouched());
+        let same = self.one.agrees() && self.two.agrees() && refused_leaves && self.read.is_still(state);
+        let call = Call { function: Function::Record, plan, numbers: &[], lent: &[state, marks, classes] };
+        self.judge(call, ours, theirs, same);
+        (ours, self.one.subject.bytes(), self.two.subject.bytes())
+    }
+
+    /// The central rule on these marks and notes; answers what the subject
+    /// left of them too.
+    pub fn central(
+        &mut self,
+        plan: &[u8],
+        code: u32,
+        node: u32,
+        marks: &[u8],
+        notes: &[u8],
+    ) -> (u32, &[u8], &[u8]) {
+        self.plan.load(plan);
+        self.one.load(marks);
+        self.two.load(notes);
+        let (subject_marks, subject_notes) = (&mut self.one.subject, &mut self.two.subject);
+        let theirs = self.subject.central(
+            self.plan.bytes(),
+            code,
+            node,
+            subject_marks.bytes_mut(),
+            subject_notes.bytes_mut(),
+        );
+        let ours = self.reference.central(plan, code, node, &mut self.one.reference, &mut self.two.reference);
+        let allowed = value(ours) == 1;
+        let refused_leaves = allowed || (self.one.is_untouched() && self.two.is_untouched());
+        let same = self.one.agrees() && self.two.agrees() && refused_leaves;
+        if number(ours) == 0 {
+            self.tally.allowed += u64::from(allowed);
+            self.tally.not_allowed += u64::from(!allowed);
+        }
+        let call = Call { function: Function::Central, plan, numbers: &[code, node], lent: &[marks, notes] };
+        self.judge(call, ours, theirs, same);
+        (ours, self.one.subject.bytes(), self.two.subject.bytes())
+    }
+
+    /// A step of a rehearsal on a state of its own.
+    pub fn simulate(&mut self, plan: &[u8], code: u32, node: u32, site: u32, state: &[u8]) -> u32 {
+        let mut pair = std::mem::take(&mut self.one);
+        pair.load(state);
+        let (ours, _) = self.simulate_on(plan, code, node, site, &mut pair);
+        self.one = pair;
+        ours
+    }
+
+    /// A step of a rehearsal on a state that goes on; answers also whether
+    /// both sides came to the same.
+    pub fn simulate_on(
+        &mut self,
+        plan: &[u8],
+        code: u32,
+        node: u32,
+        site: u32,
+        state: &mut Pair,
+    ) -> (u32, bool) {
+        self.plan.load(plan);
+        let theirs = self.subject.simulate(self.plan.bytes(), code, node, site, state.subject.bytes_mut());
+        let ours = self.reference.simulate(plan, code, node, site, &mut state.reference);
+        let place = place_in_state(plan, code, node, site);
+        let same = is_bit_set(state, ours, code, place);
+        let short = &state.before()[..state.length().min(400)];
+        let call = Call { function: Function::Simulate, plan, numbers: &[code, node, site], lent: &[short] };
+        let fine = self.judge(call, ours, theirs, same);
+        (ours, fine)
+    }
+
+    /// Counts a call and compares its results; `same` says whether the bytes
+    /// were right.
+    fn judge(&mut self, call: Call, ours: u32, theirs: u32, same: bool) -> bool {
+        let plan_stays = self.plan.is_still(call.plan);
+        self.tally.count(call.function, number(ours));
+        self.tally.compare(ours == theirs && same && plan_stays, || {
+            let bytes = if same && plan_stays { "bytes as they should be" } else { "wrong bytes" };
+            format!("{}: reference {ours:08x}, subject {theirs:08x}, {bytes}", call.describe())
+        })
+    }
+}
+
+impl Call<'_> {
+    fn describe(&self) -> String {
+        let lent: Vec<String> = self.lent.iter().map(|bytes| hex(bytes)).collect();
+        format!(
+            "{} plan {} {:?} lent {}",
+            self.function.name(),
+            hex(self.plan),
+            self.numbers,
+            lent.join(" / ")
+        )
+    }
+}
+
+/// Bytes as text, for describing a call.
+pub fn hex(bytes: &[u8]) -> String {
+    bytes.iter().map(|byte| format!("{byte:02x}")).collect()
+}
+
+/// Where in the state a step sets its bit: in the row of the event's site, or
+/// of the site that hears. The caller makes sure that the step passed.
+fn place_in_state(plan: &[u8], code: u32, node: u32, site: u32) -> usize {
+    let nodes = plan.len() / 2;
+    let node = node as usize;
+    let row = match (site, code) {
+        (HAPPENS, PICK) => plan.get(node * 2 + 1).map_or(0, |&parent| usize::from(parent)),
+        (HAPPENS, _) => node,
+        _ => site as usize,
+    };
+    row.wrapping_mul(nodes).wrapping_add(node)
+}
+
+/// Whether a passed step set its bit and nothing else, and a refused one
+/// nothing at all.
+fn is_bit_set(pair: &mut Pair, result: u32, code: u32, place: usize) -> bool {
+    if number(result) == 0 { pair.has_only_set(place, 1 << (code - 1)) } else { pair.is_untouched() }
+}

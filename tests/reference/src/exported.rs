@@ -1,0 +1,106 @@
+//! One function for each function of the C archive, with the same packed
+//! result: bits 0 to 7 the number (0 passed), bits 8 to 15 the site that let
+//! an event pass or refused it by its row, bits 16 to 31 a value where the
+//! function has one.
+//!
+//! They are never inlined, so that a caller pays for a call here as well.
+
+use crate::refusal::Refusal;
+use crate::simulate::Outcome;
+use crate::site::Verdict;
+use crate::{central as central_rule, guard as guards, pass as passes, plan, record as records};
+use crate::{simulate as simulation, site as sites};
+
+/// The number in a packed result.
+pub fn number(result: u32) -> u8 {
+    result as u8
+}
+
+/// The site in a packed result.
+pub fn site(result: u32) -> u8 {
+    (result >> 8) as u8
+}
+
+/// The value in a packed result.
+pub fn value(result: u32) -> u32 {
+    result >> 16
+}
+
+/// Checks a plan: 1 to 6.
+#[inline(never)]
+pub fn check(plan: &[u8]) -> u32 {
+    done(plan::Plan::check(plan).map(|_| ()))
+}
+
+/// Writes a guard; the value is its length. 1 to 6, 8, 9, 7.
+#[inline(never)]
+pub fn guard(plan: &[u8], code: u32, node: u32, buffer: &mut [u8]) -> u32 {
+    match guards::write(plan, code, node, buffer) {
+        Ok(length) => (length as u32) << 16,
+        Err(cause) => refused(cause),
+    }
+}
+
+/// An event at its site, by the site's row. 1 to 11.
+#[inline(never)]
+pub fn step(plan: &[u8], code: u32, node: u32, row: &mut [u8]) -> u32 {
+    verdict(sites::step(plan, code, node, row))
+}
+
+/// A message into a site's row. 1 to 9.
+#[inline(never)]
+pub fn hear(plan: &[u8], code: u32, node: u32, row: &mut [u8]) -> u32 {
+    done(sites::hear(plan, code, node, row))
+}
+
+/// The single pass. 1 to 7, 13, 14.
+#[inline(never)]
+pub fn pass(plan: &[u8], answers: &[u8], marks: &mut [u8]) -> u32 {
+    done(passes::pass(plan, answers, marks))
+}
+
+/// A step of a rehearsal: an event if the site is 255, else a message to
+/// that site. 1 to 12.
+#[inline(never)]
+pub fn simulate(plan: &[u8], code: u32, node: u32, site: u32, state: &mut [u8]) -> u32 {
+    match simulation::simulate(plan, code, node, site, state) {
+        Outcome::Event(happened) => verdict(happened),
+        Outcome::Heard => 0,
+        Outcome::Refused(cause) => refused(cause),
+    }
+}
+
+/// The end record of a rehearsal's state. 1 to 7.
+#[inline(never)]
+pub fn record(plan: &[u8], state: &[u8], marks: &mut [u8], classes: &mut [u8]) -> u32 {
+    done(records::record(plan, state, marks, classes))
+}
+
+/// The central rule; the value is 1 if the event was allowed. 1 to 9.
+#[inline(never)]
+pub fn central(plan: &[u8], code: u32, node: u32, marks: &mut [u8], notes: &mut [u8]) -> u32 {
+    match central_rule::central(plan, code, node, marks, notes) {
+        Ok(allowed) => u32::from(allowed) << 16,
+        Err(cause) => refused(cause),
+    }
+}
+
+fn done(result: Result<(), Refusal>) -> u32 {
+    result.map_or_else(refused, |()| 0)
+}
+
+fn refused(cause: Refusal) -> u32 {
+    u32::from(cause.number())
+}
+
+fn verdict(verdict: Verdict) -> u32 {
+    match verdict {
+        Verdict::Passed { site } => at(site),
+        Verdict::RefusedAt { cause, site } => refused(cause) | at(site),
+        Verdict::Refused(cause) => refused(cause),
+    }
+}
+
+fn at(site: usize) -> u32 {
+    (site as u32) << 8
+}

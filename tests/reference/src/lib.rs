@@ -1,0 +1,33 @@
+//! An independent implementation of docs/01-scope.md.
+//!
+//! It was written from that document alone, so that a mistake made elsewhere
+//! is not made here a second time. The C archive is compared with it, and it
+//! is the yardstick for speed: nothing here allocates except the rehearsal
+//! from text.
+//!
+//! * [`exported`] has one function for each function of the C archive, with
+//!   the same packed results.
+//! * [`rehearse`] is the program that runs a rehearsal from text.
+//! * The modules below hold the rules themselves; a later rule goes into the
+//!   module of the thing it is about, and its number into [`Refusal`].
+//!
+//! A *site* is what the document calls a post. Marks, codes and kinds carry
+//! the document's numbers.
+
+#![forbid(unsafe_code)]
+
+pub mod central;
+pub mod event;
+pub mod exported;
+pub mod guard;
+pub mod mark;
+pub mod pass;
+pub mod plan;
+pub mod record;
+pub mod refusal;
+pub mod simulate;
+pub mod site;
+pub mod text;
+
+pub use refusal::Refusal;
+pub use text::rehearse;

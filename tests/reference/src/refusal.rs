@@ -1,0 +1,45 @@
+//! Why a call is refused.
+
+/// A cause of refusal; the value of each case is its number in the document's
+/// table.
+#[derive(Clone, Copy, Debug, PartialEq, Eq)]
+#[repr(u8)]
+pub enum Refusal {
+    /// The plan's length is odd, 0 or too big.
+    PlanLength = 1,
+    /// A node has no known kind.
+    Kind = 2,
+    /// A parent number that isn't allowed.
+    Parent = 3,
+    /// A task has a child.
+    TaskParent = 4,
+    /// A block has too few or too many children.
+    Children = 5,
+    /// The tree is too deep.
+    Depth = 6,
+    /// A lent buffer has the wrong length.
+    Length = 7,
+    /// A code, node or site that doesn't exist.
+    Unknown = 8,
+    /// The event doesn't apply to its node.
+    NotApplicable = 9,
+    /// Something already heard shuts the event out.
+    Barred = 10,
+    /// The guard doesn't hold.
+    Guard = 11,
+    /// A message about something that hasn't happened.
+    FalseMessage = 12,
+    /// The pass: a task's or conditional's answer is neither 1 nor 2.
+    Answer = 13,
+    /// The pass: an xor's answer is not a child that offers.
+    Choice = 14,
+    /// The text is malformed or too long.
+    Text = 15,
+}
+
+impl Refusal {
+    /// The number in the document's table.
+    pub fn number(self) -> u8 {
+        self as u8
+    }
+}

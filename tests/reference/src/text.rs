@@ -1,0 +1,97 @@
+//! A rehearsal from text: what the program `rehearse` prints for what it
+//! reads. This is the one place that allocates.
+
+use crate::exported::{self, number};
+use crate::plan::{MAX_NODES, Plan};
+use crate::refusal::Refusal;
+
+/// The longest text that is read.
+pub const MAX_TEXT: usize = 32_768;
+
+/// Stands between plan and steps.
+const DIVIDER: &[u8] = b"--";
+
+/// Runs a rehearsal and answers the program's output.
+pub fn rehearse(text: &[u8]) -> Vec<u8> {
+    let mut output = Vec::new();
+    if let Err(cause) = run(text, &mut output) {
+        output.clear();
+        put_line(&mut output, &[cause.number()]);
+    }
+    output
+}
+
+/// A text taken apart.
+struct Script {
+    plan: Vec<u8>,
+    steps: Vec<[u8; 3]>,
+}
+
+fn run(text: &[u8], output: &mut Vec<u8>) -> Result<(), Refusal> {
+    let script = read(text).ok_or(Refusal::Text)?;
+    let size = Plan::check(&script.plan)?.size();
+    let mut state = vec![0; size * size];
+    for [code, node, site] in script.steps.iter().map(|step| step.map(u32::from)) {
+        let result = exported::simulate(&script.plan, code, node, site, &mut state);
+        put_line(output, &[number(result)]);
+    }
+    put_record(&script.plan, &state, output);
+    Ok(())
+}
+
+fn put_record(plan: &[u8], state: &[u8], output: &mut Vec<u8>) {
+    let (mut marks, mut classes) = ([0; MAX_NODES], [0; MAX_NODES]);
+    let size = plan.len() / 2;
+    exported::record(plan, state, &mut marks[..size], &mut classes[..size]);
+    for (node, bytes) in plan.chunks(2).enumerate() {
+        put_line(output, &[node as u8, bytes[0], marks[node], classes[node]]);
+    }
+}
+
+/// The whole text is read before anything runs; `None` if it is malformed
+/// anywhere or too long.
+fn read(text: &[u8]) -> Option<Script> {
+    if text.len() > MAX_TEXT {
+        return None;
+    }
+    let mut lines = text.strip_suffix(b"\n")?.split(|&byte| byte == b'\n');
+    let mut plan = Vec::new();
+    loop {
+        match lines.next()? {
+            DIVIDER => break,
+            line => plan.extend(frame::<2>(line)?),
+        }
+    }
+    let steps = lines.map(frame::<3>).collect::<Option<_>>()?;
+    Some(Script { plan, steps })
+}
+
+/// A line of exactly so many bytes in lowercase hexadecimal.
+fn frame<const SIZE: usize>(line: &[u8]) -> Option<[u8; SIZE]> {
+    let (pairs, []) = line.as_chunks::<2>() else {
+        return None;
+    };
+    let pairs: &[[u8; 2]; SIZE] = pairs.try_into().ok()?;
+    let mut bytes = [0; SIZE];
+    for (byte, [high, low]) in bytes.iter_mut().zip(pairs) {
+        *byte = digit(*high)? << 4 | digit(*low)?;
+    }
+    Some(bytes)
+}
+
+fn digit(character: u8) -> Option<u8> {
+    match character {
+        b'0'..=b'9' => Some(character - b'0'),
+        b'a'..=b'f' => Some(character - b'a' + 10),
+        _ => None,
+    }
+}
+
+fn put_line(output: &mut Vec<u8>, bytes: &[u8]) {
+    const DIGITS: &[u8; 16] = b"0123456789abcdef";
+    for &byte in bytes {
+        output.push(DIGITS[usize::from(byte >> 4)]);
+        output.push(DIGITS[usize::from(byte & 15)]);
+    }
+    output.push(b'\n');
+}

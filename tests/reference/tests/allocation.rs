@@ -1,0 +1,56 @@
+//! Nothing that is measured allocates: all working memory is lent or on the
+//! stack.
+
+mod common;
+
+use common::*;
+use reference::exported;
+use std::alloc::{GlobalAlloc, Layout, System};
+use std::cell::Cell;
+
+thread_local! {
+    static COUNT: Cell<usize> = const { Cell::new(0) };
+}
+
+/// The system's allocator, counting for each thread.
+struct Counting;
+
+// SAFETY: everything is passed on to the system's allocator unchanged.
+unsafe impl GlobalAlloc for Counting {
+    unsafe fn alloc(&self, layout: Layout) -> *mut u8 {
+        COUNT.with(|count| count.set(count.get() + 1));
+        // SAFETY: the caller's promise is passed on.
+        unsafe { System.alloc(layout) }
+    }
+
+    unsafe fn dealloc(&self, memory: *mut u8, layout: Layout) {
+        // SAFETY: the caller's promise is passed on.
+        unsafe { System.dealloc(memory, layout) }
+    }
+}
+
+#[global_allocator]
+static ALLOCATOR: Counting = Counting;
+
+#[test]
+fn exported_functions_do_not_allocate() {
+    let plan = hex(P);
+    let answers = [0, 1, 1, 1, 1, 1];
+    let (mut marks, mut notes, mut state, mut buffer) = ([0; 6], [0; 6], [0; 36], [0; 300]);
+    let before = COUNT.get();
+    let mut sum = exported::check(&plan);
+    for code in 0..10 {
+        for node in 0..7 {
+            sum += exported::guard(&plan, code, node, &mut buffer);
+            sum += exported::step(&plan, code, node, &mut marks);
+            sum += exported::hear(&plan, code, node, &mut marks);
+            sum += exported::simulate(&plan, code, node, HAPPENS, &mut state);
+            sum += exported::simulate(&plan, code, node, 1, &mut state);
+            sum += exported::central(&plan, code, node, &mut marks, &mut notes);
+        }
+    }
+    sum += exported::pass(&plan, &answers, &mut marks);
+    sum += exported::record(&plan, &state, &mut marks, &mut notes);
+    assert_eq!(COUNT.get(), before);
+    assert_ne!(sum, 0);
+}

@@ -1,0 +1,129 @@
+//! What several test files share.
+#![allow(dead_code)]
+
+use reference::exported;
+
+/// Codes by name.
+pub const START: u32 = 1;
+pub const OFFER: u32 = 2;
+pub const COMMIT: u32 = 3;
+pub const ABORT: u32 = 4;
+pub const YES: u32 = 5;
+pub const NO: u32 = 6;
+pub const PICK: u32 = 7;
+pub const TURNED_DOWN: u32 = 8;
+/// The site that says: the event happens.
+pub const HAPPENS: u32 = 0xff;
+
+/// Plan P of the document.
+pub const P: &str = "02ff 0100 0500 0102 0102 0100";
+
+/// Bytes from hexadecimal; spaces don't count.
+pub fn hex(text: &str) -> Vec<u8> {
+    let digits: Vec<u8> = text.chars().filter_map(|c| c.to_digit(16)).map(|d| d as u8).collect();
+    digits.chunks(2).map(|pair| pair[0] << 4 | pair[1]).collect()
+}
+
+/// A serial root with so many tasks.
+pub fn serial_of(tasks: usize) -> Vec<u8> {
+    let mut plan = hex("02ff");
+    (0..tasks).for_each(|_| plan.extend([1, 0]));
+    plan
+}
+
+/// Serials below each other with a task at the end, as many levels as asked.
+pub fn chain(levels: usize) -> Vec<u8> {
+    let mut plan = hex("02ff");
+    for number in 1..levels {
+        let kind = if number + 1 == levels { 1 } else { 2 };
+        plan.extend([kind, number as u8 - 1]);
+    }
+    plan
+}
+
+/// A plan of exactly so many nodes: a root with and-blocks of tasks.
+pub fn plan_of(nodes: usize) -> Vec<u8> {
+    let mut plan = hex("02ff");
+    let mut block = 0;
+    for number in 1..nodes {
+        let in_block = (number - 1) % 20;
+        if in_block == 0 && number + 1 < nodes {
+            block = number as u8;
+            plan.extend([3, 0]);
+        } else {
+            plan.extend([1, if in_block == 0 { 0 } else { block }]);
+        }
+    }
+    plan
+}
+
+/// The guard as bytes; panics if it is refused.
+pub fn guard_bytes(plan: &[u8], code: u32, node: u32) -> Vec<u8> {
+    let mut buffer = [0xee; 300];
+    let result = exported::guard(plan, code, node, &mut buffer);
+    assert_eq!(exported::number(result), 0, "code {code} node {node}");
+    assert_eq!(exported::site(result), 0);
+    let length = exported::value(result) as usize;
+    assert!(buffer[length..].iter().all(|&byte| byte == 0xee), "the rest of the buffer stays");
+    buffer[..length].to_vec()
+}
+
+/// The pass's marks, or its refusal.
+pub fn pass_marks(plan: &[u8], answers: &[u8]) -> Result<Vec<u8>, u32> {
+    let mut marks = vec![0xee; plan.len() / 2];
+    match exported::pass(plan, answers, &mut marks) {
+        0 => Ok(marks),
+        refused => {
+            assert!(marks.iter().all(|&byte| byte == 0xee), "a refused pass leaves the marks");
+            Err(refused)
+        }
+    }
+}
+
+/// A rehearsal under way.
+pub struct Rehearsal {
+    pub plan: Vec<u8>,
+    pub state: Vec<u8>,
+}
+
+impl Rehearsal {
+    pub fn new(plan: &str) -> Rehearsal {
+        let plan = hex(plan);
+        let nodes = plan.len() / 2;
+        Rehearsal { plan, state: vec![0; nodes * nodes] }
+    }
+
+    pub fn nodes(&self) -> u32 {
+        (self.plan.len() / 2) as u32
+    }
+
+    /// An event; answers the packed result.
+    pub fn event(&mut self, code: u32, node: u32) -> u32 {
+        exported::simulate(&self.plan, code, node, HAPPENS, &mut self.state)
+    }
+
+    /// A message; answers the packed result.
+    pub fn message(&mut self, code: u32, node: u32, site: u32) -> u32 {
+        exported::simulate(&self.plan, code, node, site, &mut self.state)
+    }
+
+    /// An event that must pass, told to everybody.
+    pub fn all_know(&mut self, code: u32, node: u32) {
+        let result = self.event(code, node);
+        assert_eq!(exported::number(result), 0, "code {code} node {node}");
+        for site in 0..self.nodes() {
+            assert_eq!(self.message(code, node, site), 0);
+        }
+    }
+
+    pub fn marks(&self) -> Vec<u8> {
+        self.record().0
+    }
+
+    pub fn record(&self) -> (Vec<u8>, Vec<u8>) {
+        let nodes = self.plan.len() / 2;
+        let (mut marks, mut classes) = (vec![0xee; nodes], vec![0xee; nodes]);
+        assert_eq!(exported::record(&self.plan, &self.state, &mut marks, &mut classes), 0);
+        (marks, classes)
+    }
+}

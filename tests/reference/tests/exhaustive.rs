@@ -1,0 +1,207 @@
+//! Every rehearsal of every small plan: all events and all messages that a
+//! guard can notice, in every order. What passes must be a run of the central
+//! rule, what the central rule allows must pass once everybody knows, and
+//! when the job is over the pass must come to the same record.
+
+mod common;
+
+use common::*;
+use reference::exported::{central, check, number, record, simulate, value};
+use std::collections::HashSet;
+
+/// All valid plans with so many nodes.
+fn plans(nodes: usize) -> Vec<Vec<u8>> {
+    let mut open = vec![Vec::new()];
+    for number in 0..nodes {
+        let parents = if number == 0 { vec![0xff] } else { (0..number as u8).collect() };
+        open = open.iter().flat_map(|plan| longer(plan, &parents)).collect();
+    }
+    open.retain(|plan| check(plan) == 0);
+    open
+}
+
+fn longer(plan: &[u8], parents: &[u8]) -> Vec<Vec<u8>> {
+    let nodes = (1..=7).flat_map(|kind| parents.iter().map(move |&parent| [kind, parent]));
+    nodes.map(|node| [plan, &node].concat()).collect()
+}
+
+/// A plan with its events, and the messages that some guard can notice.
+struct World {
+    plan: Vec<u8>,
+    nodes: usize,
+    events: Vec<(u32, u32)>,
+    messages: Vec<(u32, u32, u32)>,
+}
+
+impl World {
+    fn new(plan: Vec<u8>) -> World {
+        let nodes = plan.len() / 2;
+        let all = (1..=8).flat_map(|code| (0..nodes as u32).map(move |node| (code, node)));
+        let mut buffer = [0; 300];
+        let applies = |&(code, node): &(u32, u32)| {
+            number(reference::exported::guard(&plan, code, node, &mut buffer)) == 0
+        };
+        let events: Vec<_> = all.filter(applies).collect();
+        let mut messages: Vec<_> = events.iter().flat_map(|&event| noticed(&plan, event)).collect();
+        messages.sort_unstable();
+        messages.dedup();
+        World { plan, nodes, events, messages }
+    }
+
+    fn step(&self, state: &[u8], code: u32, node: u32, site: u32) -> Option<Vec<u8>> {
+        let mut after = state.to_vec();
+        let passed = number(simulate(&self.plan, code, node, site, &mut after)) == 0;
+        assert!(passed || after == state, "a refused step leaves the state");
+        passed.then_some(after)
+    }
+
+    /// Marks, answers and picks, each from the row of the site it is at.
+    fn seen_from_above(&self, state: &[u8]) -> (Vec<u8>, Vec<u8>) {
+        let (mut marks, mut classes) = (vec![0; self.nodes], vec![0; self.nodes]);
+        assert_eq!(record(&self.plan, state, &mut marks, &mut classes), 0);
+        let notes = (0..self.nodes).map(|node| {
+            let parent = usize::from(self.plan[2 * node + 1]);
+            let at_parent = if node == 0 { 0 } else { state[parent * self.nodes + node] };
+            state[node * self.nodes + node] & 0x30 | at_parent & 0x40
+        });
+        (marks, notes.collect())
+    }
+
+    /// Whether the central rule allows it, and what it leaves.
+    fn judge_from_above(&self, state: &[u8], code: u32, node: u32) -> (bool, (Vec<u8>, Vec<u8>)) {
+        let (mut marks, mut notes) = self.seen_from_above(state);
+        let result = central(&self.plan, code, node, &mut marks, &mut notes);
+        assert_eq!(number(result), 0);
+        (value(result) == 1, (marks, notes))
+    }
+
+    /// Walks all states that can be reached; answers how many there are.
+    fn walk(&self) -> usize {
+        let fresh = vec![0; self.nodes * self.nodes];
+        let mut known = HashSet::from([fresh.clone()]);
+        let mut open = vec![fresh];
+        while let Some(state) = open.pop() {
+            let mut next = self.told(&state);
+            let all_know = next.iter().all(|after| *after == state);
+            let happened = self.happened(&state, all_know);
+            if all_know && happened.is_empty() {
+                self.is_over(&state);
+            }
+            next.extend(happened);
+            for after in next {
+                if known.insert(after.clone()) {
+                    open.push(after);
+                }
+            }
+        }
+        known.len()
+    }
+
+    /// The states after each message that isn't false.
+    fn told(&self, state: &[u8]) -> Vec<Vec<u8>> {
+        self.messages.iter().filter_map(|&(code, node, site)| self.step(state, code, node, site)).collect()
+    }
+
+    /// The states after each event that passes, held against the central rule.
+    fn happened(&self, state: &[u8], all_know: bool) -> Vec<Vec<u8>> {
+        let mut after_each = Vec::new();
+        for &(code, node) in &self.events {
+            let after = self.step(state, code, node, HAPPENS);
+            let (allowed, left) = self.judge_from_above(state, code, node);
+            let what = format!("plan {:02x?} state {state:02x?} code {code} node {node}", self.plan);
+            assert!(allowed || after.is_none(), "only what the central rule allows: {what}");
+            assert!(!all_know || allowed == after.is_some(), "all that it allows: {what}");
+            if let Some(after) = after {
+                assert_eq!(self.seen_from_above(&after), left, "{what}");
+                after_each.push(after);
+            }
+        }
+        after_each
+    }
+
+    /// The pass agrees with the end record, whatever stands in free bytes.
+    fn is_over(&self, state: &[u8]) {
+        let (marks, notes) = self.seen_from_above(state);
+        for free in [0, 1, 2, 3, 255] {
+            let answers: Vec<u8> =
+                (0..self.nodes).map(|node| self.answer(node, &marks, &notes).unwrap_or(free)).collect();
+            let what = format!("plan {:02x?} answers {answers:02x?}", self.plan);
+            assert_eq!(pass_marks(&self.plan, &answers), Ok(marks.clone()), "{what}");
+        }
+    }
+
+    /// A node's answer byte as the events settle it; `None` if it is free.
+    fn answer(&self, node: usize, marks: &[u8], notes: &[u8]) -> Option<u8> {
+        match (self.plan[2 * node], marks[node]) {
+            (_, 0) => None,
+            (1, 4) => Some(2),
+            (1, _) => Some(1),
+            (7, _) => Some(if notes[node] & 0x10 != 0 { 1 } else { 2 }),
+            (5, _) => {
+                let children = (1..self.nodes).filter(|&child| usize::from(self.plan[2 * child + 1]) == node);
+                let mut places = children.zip(1..);
+                Some(places.find(|&(child, _)| notes[child] & 0x40 != 0).map_or(0, |(_, place)| place))
+            }
+            _ => None,
+        }
+    }
+}
+
+/// The messages that the guard of this event can notice at its site.
+fn noticed(plan: &[u8], (code, node): (u32, u32)) -> Vec<(u32, u32, u32)> {
+    let site = if code == PICK { u32::from(plan[2 * node as usize + 1]) } else { node };
+    let bytes = guard_bytes(plan, code, node);
+    let mut found = Vec::new();
+    let mut at = 1;
+    while at < bytes.len() {
+        let events = usize::from(bytes[at]);
+        for event in bytes[at + 1..][..2 * events].chunks(2) {
+            found.push((u32::from(event[0]), u32::from(event[1]), site));
+        }
+        at += 1 + 2 * events;
+    }
+    found
+}
+
+#[test]
+fn every_plan_of_up_to_three_nodes() {
+    let mut count = 0;
+    let mut states = 0;
+    for plan in (1..=3).flat_map(plans) {
+        states += World::new(plan).walk();
+        count += 1;
+    }
+    println!("{count} plans, {states} states");
+    assert_eq!(count, 1 + 5 + 31);
+}
+
+#[test]
+fn every_plan_of_four_nodes() {
+    let mut count = 0;
+    let mut states = 0;
+    for plan in plans(4) {
+        states += World::new(plan).walk();
+        count += 1;
+    }
+    println!("{count} plans, {states} states");
+    assert!(count > 100);
+}
+
+/// Larger ones where kinds meet: an xor below each kind, blocks below an xor.
+#[test]
+fn some_larger_plans() {
+    let some = [
+        P,
+        "05ff 0500 0100 0101 0101",
+        "05ff 0700 0100 0101 0101",
+        "05ff 0600 0100 0101 0101",
+        "07ff 0500 0100 0101 0101",
+        "06ff 0500 0100 0101 0101",
+        "04ff 0500 0100 0101 0101",
+        "03ff 0500 0101 0101 0100",
+        "05ff 0100 0100 0100",
+    ];
+    for plan in some {
+        println!("{plan}: {} states", World::new(hex(plan)).walk());
+    }
+}

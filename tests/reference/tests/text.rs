@@ -1,0 +1,123 @@
+//! Rehearsals from text.
+
+mod common;
+
+use common::plan_of;
+use reference::rehearse;
+
+/// Lines from words.
+fn lines(words: &str) -> String {
+    words.split_whitespace().map(|word| format!("{word}\n")).collect()
+}
+
+fn prints(input: impl AsRef<[u8]>, words: &str) {
+    let output = String::from_utf8(rehearse(input.as_ref())).expect("hexadecimal");
+    assert_eq!(output, lines(words));
+}
+
+/// A plan as lines of text.
+fn plan_text(plan: &[u8]) -> String {
+    plan.chunks(2).map(|node| format!("{:02x}{:02x}\n", node[0], node[1])).collect()
+}
+
+#[test]
+fn the_sample() {
+    let input = lines("02ff 0100 -- 0100ff 0101ff 010001 0101ff 0301ff 030100 0300ff");
+    prints(input, "00 0b 00 00 00 00 00 00020300 01010301");
+}
+
+#[test]
+fn no_steps_is_fine() {
+    prints("01ff\n--\n", "00010000");
+    prints("02ff\n0100\n--\n", "00020000 01010000");
+}
+
+#[test]
+fn refused_steps_go_on() {
+    let input = lines(
+        "02ff 0100 -- 0100ff 0100ff 0101ff 0900ff 0002ff 0102ff 010002 0100fe 0200ff 020001 030001 010001 0101ff",
+    );
+    prints(input, "00 0a 0b 08 08 08 08 08 09 09 0c 00 00 00020100 01010103");
+}
+
+#[test]
+fn malformed_text_is_15() {
+    let malformed: &[&[u8]] = &[
+        b"",
+        b"\n",
+        b"01ff\n",
+        b"01ff\n--",
+        b"01ff\n--\n--\n",
+        b"01ff\n--\n0100ff",
+        b"01ff\n--\n0100ff\n--\n",
+        b"01ff\n\n--\n",
+        b"01ff\n--\n\n",
+        b"01ff\r\n--\r\n",
+        b"01FF\n--\n",
+        b"01ff\n--\n0100FF\n",
+        b"01f\n--\n",
+        b"01fff\n--\n",
+        b"01ff00\n--\n",
+        b"01ff \n--\n",
+        b" 01ff\n--\n",
+        b"01 ff\n--\n",
+        b"01fg\n--\n",
+        b"01ff\n-\n",
+        b"01ff\n---\n",
+        b"01ff\n-- \n",
+        b"01ff\n--\n0100\n",
+        b"01ff\n--\n0100f\n",
+        b"01ff\n--\n0100ff0\n",
+        b"01ff\n--\n0100ff00\n",
+        b"01ff\n--\n01-0ff\n",
+        b"01ff\n--\n0100ff\n\xff\n",
+        b"01ff\n--\n\x000100ff\n",
+        b"01ff--\n",
+        b"\xef\xbb\xbf01ff\n--\n",
+    ];
+    for text in malformed {
+        prints(text, "0f");
+    }
+}
+
+/// The whole text is looked at before the plan is.
+#[test]
+fn number_15_comes_first() {
+    prints("08ff\n--\n0100ff\nx\n", "0f");
+    prints("08ff\n--\n0100ff\n--\n", "0f");
+    prints("08ff\n--\n0100ff\n", "02");
+}
+
+#[test]
+fn refused_plans_print_their_number_alone() {
+    prints("--\n", "01");
+    prints("--\n0100ff\n", "01");
+    prints(format!("{}--\n", plan_text(&plan_of(161))), "01");
+    prints("00ff\n--\n0100ff\n", "02");
+    prints("0100\n--\n0100ff\n", "03");
+    prints("01ff\n0100\n--\n", "04");
+    prints("02ff\n--\n", "05");
+    prints(format!("{}--\n", plan_text(&common::chain(33))), "06");
+}
+
+/// One task and 4,680 steps are 32,768 bytes to the last.
+#[test]
+fn the_longest_text() {
+    let longest = format!("01ff\n--\n{}", "0100ff\n".repeat(4680));
+    assert_eq!(longest.len(), 32_768);
+    prints(&longest, &format!("00 {} 00010103", "0a ".repeat(4679)));
+    prints(format!("{longest}\n"), "0f");
+    prints(format!("01ff\n--\n{}", "0100ff\n".repeat(4681)), "0f");
+}
+
+#[test]
+fn numbers_and_classes_of_all_marks() {
+    let input = lines(
+        "05ff 0100 0100 0100 0100 0100 --
+         0100ff 010001 010002 010003 010004
+         0101ff 0102ff 0103ff 0104ff
+         0201ff 0202ff 0403ff
+         020100 0701ff 070101 070102 0301ff 0802ff",
+    );
+    prints(input, &format!("{} 00050100 01010301 02010502 03010402 04010103 05010000", "00 ".repeat(18)));
+}

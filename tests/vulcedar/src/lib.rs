@@ -1,0 +1,89 @@
+//! Safe functions over the C archive `libvulcedar.a`.
+//!
+//! Each takes slices where the C function takes a pointer and a length, and
+//! answers the packed result as it comes: bits 0 to 7 the number (0 passed),
+//! bits 8 to 15 a site, bits 16 to 31 a value.
+
+mod raw;
+
+/// Checks a plan.
+pub fn check(plan: &[u8]) -> u32 {
+    // SAFETY: pointer and length are those of a slice that outlives the call.
+    unsafe { raw::vulcedar_check(plan.as_ptr(), plan.len()) }
+}
+
+/// Writes a guard to the front of the buffer; the value is its length.
+pub fn guard(plan: &[u8], code: u32, node: u32, buffer: &mut [u8]) -> u32 {
+    // SAFETY: as for `check`; what is written is lent for writing alone.
+    unsafe { raw::vulcedar_guard(plan.as_ptr(), plan.len(), code, node, buffer.as_mut_ptr(), buffer.len()) }
+}
+
+/// An event at its site, by the site's row.
+pub fn step(plan: &[u8], code: u32, node: u32, row: &mut [u8]) -> u32 {
+    // SAFETY: as for `guard`.
+    unsafe { raw::vulcedar_step(plan.as_ptr(), plan.len(), code, node, row.as_mut_ptr(), row.len()) }
+}
+
+/// A message into a site's row.
+pub fn hear(plan: &[u8], code: u32, node: u32, row: &mut [u8]) -> u32 {
+    // SAFETY: as for `guard`.
+    unsafe { raw::vulcedar_hear(plan.as_ptr(), plan.len(), code, node, row.as_mut_ptr(), row.len()) }
+}
+
+/// The single pass.
+pub fn pass(plan: &[u8], answers: &[u8], marks: &mut [u8]) -> u32 {
+    // SAFETY: as for `guard`.
+    unsafe {
+        raw::vulcedar_pass(
+            plan.as_ptr(),
+            plan.len(),
+            answers.as_ptr(),
+            answers.len(),
+            marks.as_mut_ptr(),
+            marks.len(),
+        )
+    }
+}
+
+/// A step of a rehearsal: an event if the site is 255, else a message to
+/// that site.
+pub fn simulate(plan: &[u8], code: u32, node: u32, site: u32, state: &mut [u8]) -> u32 {
+    // SAFETY: as for `guard`.
+    unsafe {
+        raw::vulcedar_simulate(plan.as_ptr(), plan.len(), code, node, site, state.as_mut_ptr(), state.len())
+    }
+}
+
+/// The end record of a rehearsal's state.
+pub fn record(plan: &[u8], state: &[u8], marks: &mut [u8], classes: &mut [u8]) -> u32 {
+    // SAFETY: as for `guard`.
+    unsafe {
+        raw::vulcedar_record(
+            plan.as_ptr(),
+            plan.len(),
+            state.as_ptr(),
+            state.len(),
+            marks.as_mut_ptr(),
+            marks.len(),
+            classes.as_mut_ptr(),
+            classes.len(),
+        )
+    }
+}
+
+/// The central rule; the value is 1 if the event was allowed.
+pub fn central(plan: &[u8], code: u32, node: u32, marks: &mut [u8], notes: &mut [u8]) -> u32 {
+    // SAFETY: as for `guard`.
+    unsafe {
+        raw::vulcedar_central(
+            plan.as_ptr(),
+            plan.len(),
+            code,
+            node,
+            marks.as_mut_ptr(),
+            marks.len(),
+            notes.as_mut_ptr(),
+            notes.len(),
+        )
+    }
+}

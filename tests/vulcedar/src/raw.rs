@@ -1,0 +1,73 @@
+//! The archive's functions as C declares them (include/vulcedar.h).
+
+unsafe extern "C" {
+    pub fn vulcedar_check(plan: *const u8, plan_length: usize) -> u32;
+
+    pub fn vulcedar_guard(
+        plan: *const u8,
+        plan_length: usize,
+        code: u32,
+        node: u32,
+        buffer: *mut u8,
+        buffer_length: usize,
+    ) -> u32;
+
+    pub fn vulcedar_step(
+        plan: *const u8,
+        plan_length: usize,
+        code: u32,
+        node: u32,
+        row: *mut u8,
+        row_length: usize,
+    ) -> u32;
+
+    pub fn vulcedar_hear(
+        plan: *const u8,
+        plan_length: usize,
+        code: u32,
+        node: u32,
+        row: *mut u8,
+        row_length: usize,
+    ) -> u32;
+
+    pub fn vulcedar_pass(
+        plan: *const u8,
+        plan_length: usize,
+        answers: *const u8,
+        answers_length: usize,
+        marks: *mut u8,
+        marks_length: usize,
+    ) -> u32;
+
+    pub fn vulcedar_simulate(
+        plan: *const u8,
+        plan_length: usize,
+        code: u32,
+        node: u32,
+        site: u32,
+        state: *mut u8,
+        state_length: usize,
+    ) -> u32;
+
+    pub fn vulcedar_record(
+        plan: *const u8,
+        plan_length: usize,
+        state: *const u8,
+        state_length: usize,
+        marks: *mut u8,
+        marks_length: usize,
+        classes: *mut u8,
+        classes_length: usize,
+    ) -> u32;
+
+    pub fn vulcedar_central(
+        plan: *const u8,
+        plan_length: usize,
+        code: u32,
+        node: u32,
+        marks: *mut u8,
+        marks_length: usize,
+        notes: *mut u8,
+        notes_length: usize,
+    ) -> u32;
+}
