@@ -2,3 +2,4 @@
 pub mod CodeLaws
 pub mod BitLaws
 pub mod ValidLaws
+pub mod HostLaws

@@ -1,1 +1,7 @@
--- Laws.
+-- Laws that the proofs here and in upper crates cite.
+pub mod PutLaws
+pub mod Shapes
+pub mod Short
+pub mod KinLaws
+pub mod RowLaws
+pub mod WriteLaws

@@ -65,10 +65,6 @@ finishing p v = finishBy (kind p v) v (children p v)
 unfoldable pub aborting : List ℕ → ℕ → Guard
 aborting p v = abortBy (kind p v) v (children p v)
 
--- how a block ends: it fails or it finishes
-unfoldable pub endGuard : Bool → List ℕ → ℕ → Guard
-endGuard fails p v = cond fails (aborting p v) (finishing p v)
-
 -- C5 to C7: a finish is offered by an xor's child and committed by any other node; an xor's child commits once it is picked
 unfoldable pub guardBy : List ℕ → Code → ℕ → Guard
 guardBy p start v = startBy (above p v) (parent p v) (children p (parent p v)) v

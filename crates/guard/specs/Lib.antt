@@ -2,3 +2,5 @@
 pub mod Guard
 pub mod Bytes
 pub mod Written
+pub mod Put
+pub mod Row

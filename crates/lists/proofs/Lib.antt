@@ -2,7 +2,10 @@
 pub mod Logic
 pub mod Members
 pub mod Keep
+pub mod Any
 pub mod Below
 pub mod Table
 pub mod Lent
+pub mod Filling
+pub mod Between
 pub mod Points

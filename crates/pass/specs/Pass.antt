@@ -4,8 +4,9 @@ use mathlib.Core.Bool.{Bool, true, false, cond, _&&_, _||_, not}
 use mathlib.Core.List.{List, [], _∷_}
 use Prim.Native.Nat.{ℕ, zero, suc}
 use lib.Dec.{eqb}
-use lib.ListN.{getD, set, replicate}
+use lib.ListN.{length, getD, set, replicate}
 use Rattle.plan.specs.Plan.{Kind, task, serial, and, or, xor, contingency, conditional, kind, size, children, isKind}
+use Rattle.plan.specs.Check.{checkNumber}
 
 -- how a node ends; a fault's number is 13 or 14
 pub data Outcome : Type 0 where
@@ -160,3 +161,14 @@ passOf r = record { number = numberOf (r .outcome); marks = set (r .marks) 0 (ro
 -- the pass: its number, 0 if the answers are accepted, and the marks that it then writes
 unfoldable pub pass : List ℕ → List ℕ → Passed
 pass p a = passOf (settle p a (size p) 0 (replicate (size p) 0))
+
+abbrev pub passed : ℕ → List ℕ → Passed
+passed n m = record { number = n; marks = m }
+
+-- H: the pass with marks m lent. 1 to 6 are of the plan, 7 of the lengths; a refused pass leaves the marks
+unfoldable pub passInto : List ℕ → List ℕ → List ℕ → Passed
+passInto p a m =
+    cond (not (eqb (checkNumber p) 0)) (passed (checkNumber p) m)
+    (cond (not (eqb (length a) (size p) && eqb (length m) (size p))) (passed 7 m)
+    (cond (not (eqb (pass p a .number) 0)) (passed (pass p a .number) m)
+    (pass p a)))

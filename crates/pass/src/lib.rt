@@ -1,1 +1,220 @@
-// Definitions only so far.
+// The single pass: settles every node that it reaches by the answers given, and classes the marks that come of it. What a node comes to is
+// specs/Pass.antt, a retention class specs/Record.antt. No public function has a `requires`; a refused pass leaves the marks.
+ghost use mathlib.Core.Path.{_≡_};
+ghost use Prim.Native.Nat.{_<_};
+ghost use Rattle.plan.specs.Plan.{kindOf};
+ghost use Rattle.pass.specs.Pass.{goes, skip, note, childMark, badAnswer, badPick, closes, endOf, numberOf, rootMark, passed, passInto};
+ghost use Rattle.pass.specs.Code.{outcomeOf, tallyOf, Ready, Settles};
+ghost use Rattle.pass.specs.Record.{class};
+
+// How a node ends; a fault has its number.
+enum Outcome {
+    Works,
+    Breaks,
+    Fault(u8),
+}
+
+// What a block has seen of its children.
+struct Tally {
+    places: u8,
+    worked: bool,
+    broke: bool,
+    chosen: bool,
+    wrong: u8,
+}
+
+// The fault of a node's answer that is found before its children, or 0.
+fn bad_answer(kind: u8, answer: u8) -> u8
+    ensures { λ r. ⌜ r ≡ badAnswer (kindOf kind) answer ⌝ }
+{
+    match kind {
+        2..=6 => 0,
+        _ => match answer {
+            1..=2 => 0,
+            _ => 13,
+        },
+    }
+}
+
+// Whether a block reaches its next child.
+fn reaches(kind: u8, answer: u8, t: Tally) -> bool
+    ensures { λ r. ⌜ r ≡ goes (kindOf kind) answer (tallyOf t) ⌝ }
+{
+    if t.wrong != 0 {
+        return false;
+    }
+    match kind {
+        2 => !t.broke,
+        3..=5 => true,
+        6 => !t.worked,
+        7 => if t.places == 0 { answer == 1 } else { answer == 2 },
+        _ => false,
+    }
+}
+
+// A child was not reached.
+fn skipped(t: Tally) -> Tally
+    requires { ⌜ t .places < 255 ⌝ }
+    ensures { λ r. ⌜ tallyOf r ≡ skip (tallyOf t) ⌝ }
+{
+    Tally { places: t.places + 1, worked: t.worked, broke: t.broke, chosen: t.chosen, wrong: t.wrong }
+}
+
+// A child ended so.
+fn noted(answer: u8, t: Tally, o: Outcome) -> Tally
+    requires { ⌜ t .places < 255 ⌝ }
+    ensures { λ r. ⌜ tallyOf r ≡ note answer (tallyOf t) (outcomeOf o) ⌝ }
+{
+    let places = t.places + 1;
+    match o {
+        Outcome::Works => {
+            let chosen = t.chosen || places == answer;
+            Tally { places, worked: true, broke: t.broke, chosen, wrong: t.wrong }
+        }
+        Outcome::Breaks => Tally { places, worked: t.worked, broke: true, chosen: t.chosen, wrong: t.wrong },
+        Outcome::Fault(n) => Tally { places, worked: t.worked, broke: t.broke, chosen: t.chosen, wrong: n },
+    }
+}
+
+// The mark of a child that ended so.
+fn child_mark(kind: u8, answer: u8, t: Tally, o: Outcome) -> u8
+    requires { ⌜ t .places < 255 ⌝ }
+    ensures { λ r. ⌜ r ≡ childMark (kindOf kind) answer (tallyOf t) (outcomeOf o) ⌝ }
+{
+    match o {
+        Outcome::Works => if kind == 5 && t.places + 1 != answer { 5 } else { 3 },
+        Outcome::Breaks => 4,
+        Outcome::Fault(_) => 0,
+    }
+}
+
+// The fault of an xor's answer that is found after its children, or 0.
+fn bad_pick(kind: u8, answer: u8, t: Tally) -> u8
+    ensures { λ r. ⌜ r ≡ badPick (kindOf kind) answer (tallyOf t) ⌝ }
+{
+    if kind != 5 {
+        return 0;
+    }
+    let right = if t.worked { t.chosen } else { answer == 0 };
+    if right { 0 } else { 14 }
+}
+
+// Whether the node works.
+fn works(kind: u8, answer: u8, t: Tally) -> bool
+    ensures { λ r. ⌜ r ≡ closes (kindOf kind) answer (tallyOf t) ⌝ }
+{
+    match kind {
+        2..=3 => !t.broke,
+        4..=7 => t.worked,
+        _ => answer == 1,
+    }
+}
+
+// The end of a node, by its children.
+fn ended(kind: u8, answer: u8, t: Tally) -> Outcome
+    ensures { λ r. ⌜ outcomeOf r ≡ endOf (kindOf kind) answer (tallyOf t) ⌝ }
+{
+    if t.wrong != 0 {
+        return Outcome::Fault(t.wrong);
+    }
+    let bad = bad_pick(kind, answer, t);
+    if bad != 0 {
+        return Outcome::Fault(bad);
+    }
+    if works(kind, answer, t) { Outcome::Works } else { Outcome::Breaks }
+}
+
+// Settles a node: leaves the marks of the nodes below it, and answers how it ended.
+fn settle(plan: &[u8], answers: &[u8], marks: &mut [u8], node: usize) -> Outcome
+    requires { ⌜ Ready (now plan) (now answers) (now marks) node ⌝ }
+    ensures { λ r. ⌜ Settles (now (plan .entry)) (now (answers .entry)) (now (marks .entry)) node (now (marks .exit)) r ⌝ }
+{
+    let kind = plan[2 * node];
+    let answer = answers[node];
+    let bad = bad_answer(kind, answer);
+    if bad != 0 {
+        return Outcome::Fault(bad);
+    }
+    let n = plan.len() / 2;
+    let mut t = Tally { places: 0, worked: false, broke: false, chosen: false, wrong: 0 };
+    for c in node + 1..n {
+        if plan::wide(plan[2 * c + 1]) != node {
+            continue;
+        }
+        if !reaches(kind, answer, t) {
+            t = skipped(t);
+            continue;
+        }
+        let o = settle(plan, answers, marks, c);
+        marks[c] = child_mark(kind, answer, t, o);
+        t = noted(answer, t, o);
+    }
+    ended(kind, answer, t)
+}
+
+fn number_of(o: Outcome) -> u8
+    ensures { λ r. ⌜ r ≡ numberOf (outcomeOf o) ⌝ }
+{
+    match o {
+        Outcome::Works => 0,
+        Outcome::Breaks => 0,
+        Outcome::Fault(n) => n,
+    }
+}
+
+fn root_mark(o: Outcome) -> u8
+    ensures { λ r. ⌜ r ≡ rootMark (outcomeOf o) ⌝ }
+{
+    match o {
+        Outcome::Works => 3,
+        Outcome::Breaks => 4,
+        Outcome::Fault(_) => 0,
+    }
+}
+
+// The pass over an accepted plan, with one answer and one mark a node.
+fn settle_all(plan: &[u8], answers: &[u8], marks: &mut [u8]) -> u8
+    requires { ⌜ Ready (now plan) (now answers) (now marks) 0 ⌝ }
+    ensures { λ r. ⌜ passInto (now (plan .entry)) (now (answers .entry)) (now (marks .entry)) ≡ passed r (now (marks .exit)) ⌝ }
+{
+    let n = plan::node_count(plan);
+    let mut buf = [0u8; 160];
+    let o = settle(plan, answers, &mut buf[..n], 0);
+    let number = number_of(o);
+    if number != 0 {
+        return number;
+    }
+    bytes::copy(&buf[..n], marks);
+    marks[0] = root_mark(o);
+    0
+}
+
+// The single pass: the number of what was refused and the marks as they were, or 0 and every node's mark.
+pub fn pass(plan: &[u8], answers: &[u8], marks: &mut [u8]) -> u8
+    ensures { λ r. ⌜ passInto (now (plan .entry)) (now (answers .entry)) (now (marks .entry)) ≡ passed r (now (marks .exit)) ⌝ }
+{
+    let bad = plan::check(plan);
+    if bad != 0 {
+        return bad;
+    }
+    let n = plan::node_count(plan);
+    if answers.len() != n || marks.len() != n {
+        return 7;
+    }
+    settle_all(plan, answers, marks)
+}
+
+// The retention class of node v.
+pub fn class(plan: &[u8], marks: &[u8], v: u8) -> u8
+    ensures { λ r. ⌜ r ≡ class (now (plan .entry)) (now (marks .entry)) v ⌝ }
+{
+    match plan::kind(plan, v) {
+        2..=7 => 0,
+        _ => match plan::byte_at(marks, plan::wide(v)) {
+            1..=2 => 3,
+            3 => 1,
+            4..=5 => 2,
+            _ => 0,
+        },
+    }
+}

@@ -2,27 +2,31 @@
 use mathlib.Core.Path.{_≡_, refl, sym, ap, ap₂, _∙_}
 use mathlib.Core.Bool.{Bool, true, false, cond, not, _&&_}
 use mathlib.Core.List.{List, _++_}
-use Prim.Native.Nat.{ℕ, _+_, _*_, _≤_, _<_}
-use native.Mathlib.Nat.{mul-le-mul-right, suc-mul}
+use Prim.Native.Nat.{ℕ, _+_, _*_, _/_, _%_, _≤_, _<_}
+use native.Mathlib.Nat.{mul-le-mul-right, suc-mul, mul-div-cancel, div-add-mod'}
 use native.Mathlib.Omega.{arith}
-use borrow.Author.Tests.{eq-eqb, ne-eqb, eqb-true, eqb-false, not-false}
+use borrow.Author.Tests.{eq-eqb, ne-eqb, eqb-true, eqb-false, le-leb, lt-ltb}
 use lib.Dec.{eqb, ltb}
 use lib.ListN.{length, getD, take, drop, set, length-take, length-drop, take-append-drop}
 use lib.Seq.{getD-take, getD-drop, take-set-le, take-set-lt, drop-set-lt, drop-set-add}
-use Rattle.lists.proofs.Logic.{cases, decided}
+use Rattle.lists.proofs.Logic.{cases, decided, clash, and-join, same-bool}
 use Rattle.plan.specs.Plan.{size}
 use Rattle.plan.specs.Check.{checkNumber, Accepted}
-use Rattle.event.specs.Event.{Event, at, eventOf, codeOf}
-use Rattle.event.specs.Site.{own, siteOf}
+use Rattle.event.specs.Event.{codeNumber, isCode, eventOf, known}
+use Rattle.event.specs.Site.{hostOf, own, siteOf}
 use Rattle.event.specs.Bit.{hasBit, withBit}
 use Rattle.event.specs.Valid.{invalid, Valid}
+use Rattle.event.proofs.CodeLaws.{code-number}
 use Rattle.event.proofs.ValidLaws.{valid}
+use Rattle.event.proofs.HostLaws.{host-in}
+use Rattle.central.specs.Mark.{idle, running, offered, committed, failed, turned-down, markNumber}
 use Rattle.guard.specs.Guard.{guard, holds, barred}
 use Rattle.site.specs.Row.{heardIn, heard, hear}
 use Rattle.site.specs.Verdict.{verdictNumber, verdictSite, refusalNumber, refusalSite}
 use Rattle.site.specs.Step.{Stepped, stepped, siteAt, stepInvalid, decide, stepOf}
 use Rattle.site.specs.declared.Verdict.{Verdict}
-use Rattle.simulation.specs.Simulation.{rowOf, withRow, Step, event, message, Reply, reply, stateFits, eventBy, happen, tell, simulate}
+use Rattle.simulation.specs.Simulation.{rowOf, withRow, Step, event, message, Reply, reply, stateFits, eventBy, happen, tell, markBy, markAt}
+use Rattle.simulation.specs.Run.{Placed, markByte}
 
 -- row q of n bytes ends where the next begins
 pub row-below : (n j k : ℕ) → j < k → j * n + n ≤ k * n
@@ -106,3 +110,93 @@ module _ (p st : List ℕ) (q v : ℕ) (node : v < size p) where
   pub row-hear : (code : ℕ) → withRow p st q (hear (rowOf p st q) code v) ≡ set st (q * size p + v) (withBit (getD st (q * size p + v) 0) code)
   unfolding hear
   row-hear code = rw byte-at (row-set (withBit (getD st (q * size p + v) 0) code))
+
+-- a spot in row h of n rows of n bytes
+pub spot-in : (st : List ℕ) (n h v : ℕ) → length st ≡ n * n → h < n → v < n → h * n + v < length st
+spot-in st n h v e a b = let r = row-below n h n a in omega arith
+
+-- the same by the code's number of nodes
+pub row-spot : (p st : List ℕ) (n h v : ℕ) → n ≡ size p → stateFits p (own p) st ≡ true → h < size p → v < size p → h * n + v < length st
+row-spot p st n h v e f a b = rw e (spot-in st (size p) h v (fits-told p st f) a b)
+
+module _ (p st : List ℕ) (code node q : ℕ) where
+  pub tell-refused : (n : ℕ) → n ≡ invalid p (stateFits p (own p) st) (ltb q (size p)) code node → (n ≡ 0 → ⊥) → tell p (own p) st code node q ≡ reply n 0 st
+  unfolding tell own
+  tell-refused n e h = let f = ne-eqb (invalid p (stateFits p (own p) st) (ltb q (size p)) code node) 0 (λ z. h (e ∙ z)) in rw (f, e)
+
+  module _ (zero : invalid p (stateFits p (own p) st) (ltb q (size p)) code node ≡ 0) (h : ℕ) (home : h ≡ hostOf p (eventOf code node)) where
+    heard-there : heard (rowOf p st (siteOf p (own p) (eventOf code node))) (eventOf code node) ≡ hasBit (getD st (h * size p + node) 0) code
+    unfolding heard heardIn siteOf own isCode
+    heard-there =
+        let ok = valid p (stateFits p (own p) st) (ltb q (size p)) code node zero in
+        let c : isCode code ≡ true = and-join _ _ (le-leb 1 code (ok .low)) (le-leb code 8 (ok .high)) in
+        rw (← home, code-number code c, byte-at p st h node (ok .node-in))
+
+    module _ (n : ℕ) (count : n ≡ size p) where
+      pub tell-false : hasBit (getD st (h * n + node) 0) code ≡ false → tell p (own p) st code node q ≡ reply 12 0 st
+      unfolding tell own
+      tell-false b = rw (zero, heard-there, ← count, b)
+
+      pub tell-done : hasBit (getD st (h * n + node) 0) code ≡ true → (x : ℕ) → x ≡ withBit (getD st (q * n + node) 0) code →
+          tell p (own p) st code node q ≡ reply 0 0 (set st (q * n + node) x)
+      unfolding tell own
+      tell-done b x e =
+          let ok = valid p (stateFits p (own p) st) (ltb q (size p)) code node zero in
+          rw (zero, heard-there, ← count, b) (ap (reply 0 0) (row-hear p st q node (ok .node-in) code ∙ rw (← count, e)))
+
+-- LENGTHS AND MARKS
+module _ (n len : ℕ) where
+  pub square-none : n ≡ 0 → eqb len 0 ≡ eqb len (n * n)
+  square-none e = rw e
+
+  module _ (some : n ≡ 0 → ⊥) where
+    pub square-not : (len / n ≡ n → ⊥) → false ≡ eqb len (n * n)
+    square-not h = sym (ne-eqb len (n * n) (λ e. h (rw e (mul-div-cancel n (omega arith)))))
+
+    pub square-is : len / n ≡ n → eqb (len % n) 0 ≡ eqb len (n * n)
+    square-is h =
+        let d : n * n + len % n ≡ len = ap (λ k. k * n + len % n) (sym h) ∙ div-add-mod' len n in
+        same-bool _ _ (λ e. let z = eqb-true (len % n) 0 e in eq-eqb len (n * n) (omega arith)) (λ e. let z = eqb-true len (n * n) e in eq-eqb (len % n) 0 (omega arith))
+
+-- the mark of a node, by its byte in its own row
+mark-first : (c a d o s : Bool) → cond c 3 (cond a 4 (cond d 5 (cond o 2 (cond s 1 0)))) ≡ markNumber (cond c committed (cond a failed (cond d turned-down (cond o offered (cond s running idle)))))
+unfolding markNumber
+mark-first true a d o s = refl
+mark-first false true d o s = refl
+mark-first false false true o s = refl
+mark-first false false false true s = refl
+mark-first false false false false true = refl
+mark-first false false false false false = refl
+
+pub mark-byte : (p st : List ℕ) (v : ℕ) → v < size p → markByte (getD st (v * size p + v) 0) ≡ markNumber (markAt p (own p) st v)
+unfolding markByte markAt markBy heard heardIn own codeNumber
+mark-byte p st v l = rw (byte-at p st v v l) (mark-first (hasBit b 3) (hasBit b 4) (hasBit b 8) (hasBit b 2) (hasBit b 1))
+  where
+    b : ℕ
+    b = getD st (v * size p + v) 0
+
+-- WHERE AN EVENT HAPPENS
+module _ (p : List ℕ) (len code node n : ℕ) (count : n ≡ size p) where
+  -- n, which is no row, where the call is not valid
+  pub placed-none : (invalid p (eqb len (size p * size p)) true code node ≡ 0 → ⊥) → Placed p len code node n
+  placed-none h = record { here = λ l. absurd (omega arith); nowhere = λ l. h }
+
+  abbrev ok : invalid p (eqb len (size p * size p)) true code node ≡ 0 → Valid p (eqb len (size p * size p)) true code node
+  ok z = valid p (eqb len (size p * size p)) true code node z
+
+  pub placed-large : 160 < n → Placed p len code node n
+  placed-large l = placed-none (λ z. let few = ok z .plan .few in omega arith)
+
+  pub placed-short : eqb len (n * n) ≡ false → Placed p len code node n
+  placed-short e = placed-none (λ z. clash _ (ok z .long) (rw count at e))
+
+  pub placed-unknown : known p code node ≡ false → Placed p len code node n
+  unfolding known isCode
+  placed-unknown e = placed-none (λ z. clash _ (and-join _ _ (and-join _ _ (le-leb 1 code (ok z .low)) (le-leb code 8 (ok z .high))) (lt-ltb node (size p) (ok z .node-in))) e)
+
+  pub placed-here : (q : ℕ) → eqb len (n * n) ≡ true → q ≡ hostOf p (eventOf code node) → Placed p len code node q
+  unfolding siteOf own
+  placed-here q e h = record {
+    here = λ l. (h, eqb-true len (size p * size p) (rw count at e));
+    nowhere = λ l z. let k = host-in p (ok z .plan) (eventOf code node) (ok z .applied) in omega arith;
+  }

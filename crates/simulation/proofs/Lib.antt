@@ -1,5 +1,6 @@
 -- Laws that the proofs here and in upper crates cite.
 pub mod CodeLaws
+pub mod RunLaws
 pub mod View
 pub mod StepLaws
 pub mod Bridge
