@@ -26,8 +26,12 @@ module _ (p a m : List ℕ) (k : ℕ) (told : k ≡ checkNumber p) where
   module _ (passes : k ≡ 0) (n : ℕ) (e : n ≡ size p) where
     pub into-lengths : (length a ≡ n → length m ≡ n → ⊥) → passInto p a m ≡ passed 7 m
     unfolding passInto
-    into-lengths h = rw (← told, passes, no-bool (test a && test m) (λ q.
-        h (same a (and-left (test a) (test m) q)) (same m (and-right (test a) (test m) q))))
+    into-lengths h = rw (
+      ← told,
+      passes,
+      no-bool (test a && test m) (λ q.
+          h (same a (and-left (test a) (test m) q)) (same m (and-right (test a) (test m) q))),
+    )
       where
         test : List ℕ → Bool
         test s = eqb (length s) (size p)

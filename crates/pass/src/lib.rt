@@ -47,7 +47,11 @@ fn reaches(kind: u8, answer: u8, t: Tally) -> bool
         2 => !t.broke,
         3..=5 => true,
         6 => !t.worked,
-        7 => if t.places == 0 { answer == 1 } else { answer == 2 },
+        7 => if t.places == 0 {
+            answer == 1
+        } else {
+            answer == 2
+        },
         _ => false,
     }
 }
@@ -57,7 +61,13 @@ fn skipped(t: Tally) -> Tally
     requires { ⌜ t .places < 255 ⌝ }
     ensures { λ r. ⌜ tallyOf r ≡ skip (tallyOf t) ⌝ }
 {
-    Tally { places: t.places + 1, worked: t.worked, broke: t.broke, chosen: t.chosen, wrong: t.wrong }
+    Tally {
+        places: t.places + 1,
+        worked: t.worked,
+        broke: t.broke,
+        chosen: t.chosen,
+        wrong: t.wrong,
+    }
 }
 
 // A child ended so.
@@ -69,10 +79,28 @@ fn noted(answer: u8, t: Tally, o: Outcome) -> Tally
     match o {
         Outcome::Works => {
             let chosen = t.chosen || places == answer;
-            Tally { places, worked: true, broke: t.broke, chosen, wrong: t.wrong }
+            Tally {
+                places,
+                worked: true,
+                broke: t.broke,
+                chosen,
+                wrong: t.wrong,
+            }
         }
-        Outcome::Breaks => Tally { places, worked: t.worked, broke: true, chosen: t.chosen, wrong: t.wrong },
-        Outcome::Fault(n) => Tally { places, worked: t.worked, broke: t.broke, chosen: t.chosen, wrong: n },
+        Outcome::Breaks => Tally {
+            places,
+            worked: t.worked,
+            broke: true,
+            chosen: t.chosen,
+            wrong: t.wrong,
+        },
+        Outcome::Fault(n) => Tally {
+            places,
+            worked: t.worked,
+            broke: t.broke,
+            chosen: t.chosen,
+            wrong: n,
+        },
     }
 }
 
@@ -82,7 +110,11 @@ fn child_mark(kind: u8, answer: u8, t: Tally, o: Outcome) -> u8
     ensures { λ r. ⌜ r ≡ childMark (kindOf kind) answer (tallyOf t) (outcomeOf o) ⌝ }
 {
     match o {
-        Outcome::Works => if kind == 5 && t.places + 1 != answer { 5 } else { 3 },
+        Outcome::Works => if kind == 5 && t.places + 1 != answer {
+            5
+        } else {
+            3
+        },
         Outcome::Breaks => 4,
         Outcome::Fault(_) => 0,
     }
@@ -121,7 +153,11 @@ fn ended(kind: u8, answer: u8, t: Tally) -> Outcome
     if bad != 0 {
         return Outcome::Fault(bad);
     }
-    if works(kind, answer, t) { Outcome::Works } else { Outcome::Breaks }
+    if works(kind, answer, t) {
+        Outcome::Works
+    } else {
+        Outcome::Breaks
+    }
 }
 
 // Settles a node: leaves the marks of the nodes below it, and answers how it ended.
@@ -136,7 +172,13 @@ fn settle(plan: &[u8], answers: &[u8], marks: &mut [u8], node: usize) -> Outcome
         return Outcome::Fault(bad);
     }
     let n = plan.len() / 2;
-    let mut t = Tally { places: 0, worked: false, broke: false, chosen: false, wrong: 0 };
+    let mut t = Tally {
+        places: 0,
+        worked: false,
+        broke: false,
+        chosen: false,
+        wrong: 0,
+    };
     for c in node + 1..n {
         if plan::wide(plan[2 * c + 1]) != node {
             continue;

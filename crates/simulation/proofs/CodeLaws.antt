@@ -2,7 +2,7 @@
 use mathlib.Core.Path.{_≡_, refl, sym, ap, ap₂, _∙_}
 use mathlib.Core.Bool.{Bool, true, false, cond, not, _&&_}
 use mathlib.Core.List.{List, _++_}
-use Prim.Native.Nat.{ℕ, _+_, _*_, _/_, _%_, _≤_, _<_}
+use Prim.Native.Nat.{ℕ, _+_, _-_, _*_, _/_, _%_, _≤_, _<_}
 use native.Mathlib.Nat.{mul-le-mul-right, suc-mul, mul-div-cancel, div-add-mod'}
 use native.Mathlib.Omega.{arith}
 use borrow.Author.Tests.{eq-eqb, ne-eqb, eqb-true, eqb-false, le-leb, lt-ltb}
@@ -200,3 +200,25 @@ module _ (p : List ℕ) (len code node n : ℕ) (count : n ≡ size p) where
     here = λ l. (h, eqb-true len (size p * size p) (rw count at e));
     nowhere = λ l z. let k = host-in p (ok z .plan) (eventOf code node) (ok z .applied) in omega arith;
   }
+
+pub part-width : (a n : ℕ) → a + n - a ≡ n
+part-width a n = omega arith
+
+-- the event happens: the code's numbers are n nodes, row q, and m bytes of the part
+module _ (p st : List ℕ) (code node n q : ℕ) (count : n ≡ size p) (placed : Placed p (length st) code node q) where
+  pub placed-end : q < n → q * n + n ≤ length st
+  placed-end l = let r = row-below (size p) q (size p) (omega arith) in rw (count, placed .here (omega arith) .1) r
+
+  pub happen-nowhere : n ≤ q → (b : Bool) → b ≡ eqb (length st) (n * n) → (r : ℕ) → r ≡ invalid p b true code node → happen p (own p) st code node ≡ reply r 0 st
+  unfolding stateFits own
+  happen-nowhere l b e r f =
+      let g : r ≡ invalid p (eqb (length st) (size p * size p)) true code node = f ∙ rw (e, count) in
+      happen-refused p st code node r g (λ z. placed .nowhere (omega arith) (sym g ∙ z))
+
+  pub happen-there : q < n → (m : ℕ) → m ≡ n → (row : List ℕ) (v : Verdict) → stepOf p code node (take m (drop (q * n) st)) ≡ stepped row v →
+      (x y : ℕ) → x ≡ verdictNumber v → y ≡ verdictSite v → happen p (own p) st code node ≡ reply x y (take (q * n) st ++ (row ++ drop m (drop (q * n) st)))
+  unfolding rowOf withRow stateFits own
+  happen-there l m w row v h x y f g =
+      let i = placed .here (omega arith) in
+      let a : stepOf p code node (take (size p) (drop (q * size p) st)) ≡ stepped row v = rw (w, count) at h in
+      rw (f, g, w, count) (happen-stepped p st code node q (i .0) (eq-eqb (length st) (size p * size p) (i .1)) (omega arith) row v a)

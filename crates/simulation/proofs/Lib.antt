@@ -1,6 +1,7 @@
 -- Laws that the proofs here and in upper crates cite.
 pub mod CodeLaws
 pub mod RunLaws
+pub mod RecordLaws
 pub mod View
 pub mod StepLaws
 pub mod Bridge

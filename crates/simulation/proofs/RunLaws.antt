@@ -26,13 +26,14 @@ module _ (p : List ℕ) (code node site : ℕ) (st : List ℕ) where
 -- i frames of bs were run from st₀: the state is st, and the first i of ns are their numbers
 pub record Running (p bs st₀ st ns : List ℕ) (i : ℕ) : Type 0 where
   pub long : length ns ≡ length bs / 3
+  pub kept : length st ≡ length st₀
   pub within : i ≤ length bs / 3
   pub states : replayFrom p (own p) st (stepsFrom (length bs / 3 - i) bs (3 * i)) ≡ replayFrom p (own p) st₀ (stepsOf bs)
   pub numbers : take i ns ++ numbersFrom p (own p) st (stepsFrom (length bs / 3 - i) bs (3 * i)) ≡ numbersFrom p (own p) st₀ (stepsOf bs)
 
 pub run-none : (p bs st ns : List ℕ) → length ns ≡ length bs / 3 → Running p bs st st ns 0
 unfolding stepsOf
-run-none p bs st ns e = let z : length bs / 3 - 0 ≡ length bs / 3 = omega arith in record { long = e; within = omega arith; states = rw z; numbers = rw z }
+run-none p bs st ns e = let z : length bs / 3 - 0 ≡ length bs / 3 = omega arith in record { long = e; kept = refl; within = omega arith; states = rw z; numbers = rw z }
 
 -- the step of frame i, and those behind it
 steps-next : (bs : List ℕ) (i : ℕ) → i < length bs / 3 → stepsFrom (length bs / 3 - i) bs (3 * i)
@@ -44,22 +45,24 @@ steps-next bs i l =
     rw (k, m)
 
 module _ (p bs st₀ st ns : List ℕ) (i : ℕ) (t : Running p bs st₀ st ns i) where
-  pub run-turn : i < length bs / 3 → (st′ : List ℕ) (x q : ℕ) →
-      simulateOf p (getD bs (3 * i) 0) (getD bs (3 * i + 1) 0) (getD bs (3 * i + 2) 0) st ≡ reply x q st′ → Running p bs st₀ st′ (set ns i x) (i + 1)
+  pub run-turn : i < length bs / 3 → (a b c : ℕ) → a ≡ getD bs (3 * i) 0 → b ≡ getD bs (3 * i + 1) 0 → c ≡ getD bs (3 * i + 2) 0 →
+      (st′ : List ℕ) (x q : ℕ) → simulateOf p a b c st ≡ reply x q st′ → length st′ ≡ length st → Running p bs st₀ st′ (set ns i x) (i + 1)
   unfolding replayFrom numbersFrom simulateOf
-  run-turn l st′ x q e =
+  run-turn l a b c f g h st′ x q e₀ same =
+      let e : simulate p (own p) st (stepFrom (getD bs (3 * i) 0) (getD bs (3 * i + 1) 0) (getD bs (3 * i + 2) 0)) ≡ reply x q st′ = rw (f, g, h) at e₀ in
       let rest : List Step = stepsFrom (length bs / 3 - (i + 1)) bs (3 * (i + 1)) in
       let front : take (i + 1) (set ns i x) ≡ take i ns ++ (x ∷ []) = ap (λ k. take k (set ns i x)) (add-one i) ∙ take-suc-set ns i x (omega (arith, t .long)) in
       record {
         long = length-set ns i x ∙ t .long;
+        kept = same ∙ t .kept;
         within = omega arith;
         states = ap (λ (r : Reply). replayFrom p (own p) (r .state) rest) (sym e) ∙ ap (replayFrom p (own p) st) (sym (steps-next bs i l)) ∙ t .states;
         numbers =
-          ap (λ (h : List ℕ). h ++ numbersFrom p (own p) st′ rest) front
-          ∙ append-assoc (take i ns) (x ∷ []) (numbersFrom p (own p) st′ rest)
-          ∙ ap (λ (r : Reply). take i ns ++ (r .number ∷ numbersFrom p (own p) (r .state) rest)) (sym e)
-          ∙ ap (λ (s : List Step). take i ns ++ numbersFrom p (own p) st s) (sym (steps-next bs i l))
-          ∙ t .numbers;
+            ap (λ (h : List ℕ). h ++ numbersFrom p (own p) st′ rest) front
+            ∙ append-assoc (take i ns) (x ∷ []) (numbersFrom p (own p) st′ rest)
+            ∙ ap (λ (r : Reply). take i ns ++ (r .number ∷ numbersFrom p (own p) (r .state) rest)) (sym e)
+            ∙ ap (λ (s : List Step). take i ns ++ numbersFrom p (own p) st s) (sym (steps-next bs i l))
+            ∙ t .numbers;
       }
 
   pub run-state : length bs / 3 ≤ i → st ≡ replayFrom p (own p) st₀ (stepsOf bs)

@@ -9,8 +9,9 @@ ghost use lib.ListN.{length, getD};
 ghost use Rattle.lists.specs.Seq.{table};
 ghost use Rattle.plan.specs.Plan.{size};
 ghost use Rattle.event.specs.Site.{own};
-ghost use Rattle.simulation.specs.Simulation.{reply, happen, tell};
-ghost use Rattle.simulation.specs.Run.{Placed, markByte, fitNumber};
+ghost use Rattle.pass.specs.Record.{class};
+ghost use Rattle.simulation.specs.Simulation.{reply, happen, tell, replayFrom, numbersFrom};
+ghost use Rattle.simulation.specs.Run.{Placed, markByte, simulateOf, fitNumber, recorded, recordInto, stepsOf, ran, runOf};
 
 // What a step answers: its number, 0 passed, and the event's site with 0, 10 and 11, else 0.
 pub struct Reply {
@@ -48,23 +49,61 @@ fn place(plan: &[u8], code: u32, node: u32, len: usize) -> usize
     plan::wide(event::host(plan, code as u8, node as u8))
 }
 
+// An event happens: its site's own step on that site's row.
+fn happen(plan: &[u8], code: u32, node: u32, state: &mut [u8]) -> Reply
+    ensures { λ r. ⌜ happen (now (plan .entry)) (own (now (plan .entry))) (now (state .entry)) code node ≡ reply (r .number) (r .site) (now (state .exit)) ⌝ }
+{
+    let n = plan::node_count(plan);
+    let q = place(plan, code, node, state.len());
+    if n <= q {
+        let number = event::validate(plan, is_square(n, state.len()), true, code, node);
+        return Reply { number, site: 0 };
+    }
+    let a = q * n;
+    let e = a + n;
+    let v = site::step(plan, code, node, &mut state[a..e]);
+    Reply {
+        number: site::number(v),
+        site: site::verdict_site(v),
+    }
+}
+
 // A site is told of an event that happened.
 fn tell(plan: &[u8], code: u32, node: u32, site: u32, state: &mut [u8]) -> Reply
     ensures { λ r. ⌜ tell (now (plan .entry)) (own (now (plan .entry))) (now (state .entry)) code node site ≡ reply (r .number) (r .site) (now (state .exit)) ⌝ }
 {
     let n = plan::node_count(plan);
-    let number = event::validate(plan, is_square(n, state.len()), (site as usize) < n, code, node);
+    let number = event::validate(
+        plan,
+        is_square(n, state.len()),
+        (site as usize) < n,
+        code,
+        node,
+    );
     if number != 0 {
         return Reply { number, site: 0 };
     }
     let v = node as usize;
     let home = plan::wide(event::host(plan, code as u8, node as u8));
     if !event::has_bit(state[home * n + v], code as u8) {
-        return Reply { number: 12, site: 0 };
+        return Reply {
+            number: 12,
+            site: 0,
+        };
     }
     let at = site as usize * n + v;
     state[at] = event::with_bit(state[at], code as u8);
     Reply { number: 0, site: 0 }
+}
+
+// One step. Site 255: the event happens; any other site is told of it.
+pub fn simulate(plan: &[u8], code: u32, node: u32, site: u32, state: &mut [u8]) -> Reply
+    ensures { λ r. ⌜ simulateOf (now (plan .entry)) code node site (now (state .entry)) ≡ reply (r .number) (r .site) (now (state .exit)) ⌝ }
+{
+    if site == 255 {
+        return happen(plan, code, node, state);
+    }
+    tell(plan, code, node, site, state)
 }
 
 // The mark that a byte of a node's own row shows.
@@ -110,4 +149,97 @@ fn fit(plan: &[u8], fits: bool) -> u8
         return number;
     }
     if fits { 0 } else { 7 }
+}
+
+// Every node's class, one byte a node.
+fn write_classes(plan: &[u8], marks: &[u8], classes: &mut [u8])
+    requires { ⌜ (size (now plan) ≤ 160) × (length (now classes) ≡ size (now plan)) ⌝ }
+    ensures { λ _. ⌜ now (classes .exit) ≡ table (class (now (plan .entry)) (now (marks .entry))) (size (now (plan .entry))) ⌝ }
+{
+    let n = plan::node_count(plan);
+    let mut v = 0;
+    while v < n {
+        classes[v] = pass::class(plan, marks, v as u8);
+        v += 1;
+    }
+}
+
+fn record_fits(n: usize, state: usize, marks: usize, classes: usize) -> bool
+    ensures { λ r. ⌜ r ≡ (eqb state (n * n) && eqb marks n && eqb classes n) ⌝ }
+{
+    if !is_square(n, state) {
+        return false;
+    }
+    if marks != n {
+        return false;
+    }
+    classes == n
+}
+
+// The record: every node's mark by its own site's row, and its class.
+pub fn record(plan: &[u8], state: &[u8], marks: &mut [u8], classes: &mut [u8]) -> u8
+    ensures { λ r. ⌜ recordInto (now (plan .entry)) (now (state .entry)) (now (marks .entry)) (now (classes .entry)) ≡ recorded r (now (marks .exit)) (now (classes .exit)) ⌝ }
+{
+    let n = plan::node_count(plan);
+    let number = fit(
+        plan,
+        record_fits(n, state.len(), marks.len(), classes.len()),
+    );
+    if number != 0 {
+        return number;
+    }
+    write_marks(n, state, marks);
+    write_classes(plan, marks, classes);
+    0
+}
+
+fn wide32(x: u8) -> u32
+    ensures { λ r. ⌜ r ≡ x ⌝ }
+{
+    x as u32
+}
+
+fn run_fits(n: usize, state: usize, steps: usize, numbers: usize) -> bool
+    ensures { λ r. ⌜ r ≡ (eqb state (n * n) && eqb (steps % 3) 0 && eqb numbers (steps / 3)) ⌝ }
+{
+    if !is_square(n, state) {
+        return false;
+    }
+    if steps % 3 != 0 {
+        return false;
+    }
+    numbers == steps / 3
+}
+
+fn run_all(plan: &[u8], steps: &[u8], state: &mut [u8], numbers: &mut [u8])
+    requires { ⌜ length (now numbers) ≡ length (now steps) / 3 ⌝ }
+    ensures { λ _. ⌜ now (state .exit) ≡ replayFrom (now (plan .entry)) (own (now (plan .entry))) (now (state .entry)) (stepsOf (now (steps .entry))) ⌝ }
+    ensures { λ _. ⌜ now (numbers .exit) ≡ numbersFrom (now (plan .entry)) (own (now (plan .entry))) (now (state .entry)) (stepsOf (now (steps .entry))) ⌝ }
+{
+    let mut i = 0;
+    while i < numbers.len() {
+        let f = 3 * i;
+        let r = simulate(
+            plan,
+            wide32(steps[f]),
+            wide32(steps[f + 1]),
+            wide32(steps[f + 2]),
+            state,
+        );
+        numbers[i] = r.number;
+        i += 1;
+    }
+}
+
+// A list of steps in frames of three bytes, code, node and site: the state that they leave, and the number of each.
+pub fn run(plan: &[u8], steps: &[u8], state: &mut [u8], numbers: &mut [u8]) -> u8
+    ensures { λ r. ⌜ runOf (now (plan .entry)) (now (steps .entry)) (now (state .entry)) (now (numbers .entry)) ≡ ran r (now (state .exit)) (now (numbers .exit)) ⌝ }
+{
+    let n = plan::node_count(plan);
+    let number = fit(plan, run_fits(n, state.len(), steps.len(), numbers.len()));
+    if number != 0 {
+        return number;
+    }
+    run_all(plan, steps, state, numbers);
+    0
 }

@@ -25,7 +25,7 @@ returns c = class-block _ _ _ _ (c .before .before .kind .ensures) (c .before .i
 told : (c : tie.After-byte-at) →
     getD classTable (c .byte-at .result) 0
     ≡ class (c .before .before .before .before .before .before .args .plan .now) (c .before .before .before .before .before .before .args .marks .now)
-      (c .before .before .before .before .before .before .args .v)
+    (c .before .before .before .before .before .before .args .v)
 told c =
     class-task _ _ _ _ (c .before .before .before .kind .ensures) _ _
     (λ l h. ⊎-elim (λ w. omega arith) (λ w. omega arith) (c .before .before .if1 .came))

@@ -1,0 +1,82 @@
+-- The record's and the list's calls: their tests, and what they leave. Assumes nothing.
+use mathlib.Core.Path.{_≡_, refl, sym, ap, _∙_}
+use mathlib.Core.Bool.{Bool, true, false, cond, not, _&&_}
+use mathlib.Core.List.{List}
+use Prim.Native.Nat.{ℕ, _+_, _*_, _/_, _%_, _≤_, _<_}
+use native.Mathlib.Omega.{arith}
+use borrow.Author.Tests.{eqb-true, eqb-false, ne-eqb}
+use lib.Dec.{eqb}
+use lib.ListN.{length, getD}
+use Rattle.lists.specs.Seq.{table}
+use Rattle.lists.proofs.Logic.{cases, decided, and-left, and-right}
+use Rattle.lists.proofs.Table.{table-length, table-at, table-by}
+use Rattle.plan.specs.Plan.{size}
+use Rattle.plan.specs.Check.{checkNumber, Accepted}
+use Rattle.plan.proofs.Main.{check-exact}
+use Rattle.event.specs.Site.{own}
+use Rattle.central.specs.Mark.{markNumber}
+use Rattle.pass.specs.Record.{class, recordOf}
+use Rattle.simulation.specs.Simulation.{stateFits, markAt, endMarks}
+use Rattle.simulation.specs.Run.{markByte, fitNumber, recorded, recordNumber, recordInto, runNumber}
+use Rattle.simulation.proofs.CodeLaws.{mark-byte}
+
+-- no number: the plan is accepted and the lengths are right
+pub fit-told : (p : List ℕ) (fits : Bool) → fitNumber p fits ≡ 0 → Accepted p × (fits ≡ true)
+unfolding fitNumber
+fit-told p fits h = cases (decided (eqb (checkNumber p) 0))
+    (λ e. ((check-exact p) .0 (eqb-true (checkNumber p) 0 e), right fits (rw e at h)))
+    (λ e. absurd (eqb-false (checkNumber p) 0 e (rw e at h)))
+  where
+    right : (b : Bool) → _≡_ {A = ℕ} (cond (not b) 7 0) 0 → b ≡ true
+    right true z = refl
+    right false z = absurd (omega arith)
+
+marks-same : (p st : List ℕ) → table (λ v. markByte (getD st (v * size p + v) 0)) (size p) ≡ endMarks p (own p) st
+unfolding endMarks
+marks-same p st =
+    let f : ℕ → ℕ = λ v. markByte (getD st (v * size p + v) 0) in
+    table-by (λ v. markNumber (markAt p (own p) st v)) (size p) (table f (size p)) (table-length f (size p)) (λ i l. table-at f (size p) i l ∙ mark-byte p st i l)
+
+module _ (p st m c : List ℕ) where
+  -- the code's tests
+  pub record-told : (n : ℕ) → n ≡ size p → (b : Bool) → b ≡ (eqb (length st) (n * n) && eqb (length m) n && eqb (length c) n) →
+      (r : ℕ) → r ≡ fitNumber p b → r ≡ recordNumber p st m c
+  unfolding recordNumber stateFits own
+  record-told n e b f r g = g ∙ rw (f, e)
+
+  pub record-refused : (r : ℕ) → r ≡ recordNumber p st m c → (r ≡ 0 → ⊥) → recordInto p st m c ≡ recorded r m c
+  unfolding recordInto
+  record-refused r e h = rw (ne-eqb (recordNumber p st m c) 0 (λ z. h (e ∙ z)), e)
+
+  module _ (zero : recordNumber p st m c ≡ 0) where
+    tests : Accepted p × ((eqb (length st) (size p * size p) && eqb (length m) (size p) && eqb (length c) (size p)) ≡ true)
+    unfolding recordNumber stateFits own
+    tests = fit-told p _ zero
+
+    pub record-lengths : (n : ℕ) → n ≡ size p → (n ≤ 160) × (length st ≡ n * n) × (length m ≡ n) × (length c ≡ n)
+    record-lengths n e =
+        let t = tests .1 in
+        let a = and-left (eqb (length st) (size p * size p) && eqb (length m) (size p)) (eqb (length c) (size p)) t in
+        let few = tests .0 .few in (
+          omega arith,
+          rw e (eqb-true _ _ (and-left _ _ a)),
+          rw e (eqb-true _ _ (and-right (eqb (length st) (size p * size p)) _ a)),
+          rw e (eqb-true _ _ (and-right (eqb (length st) (size p * size p) && eqb (length m) (size p)) _ t)),
+        )
+
+    pub record-done : (n : ℕ) → n ≡ size p → (m′ c′ : List ℕ) → m′ ≡ table (λ v. markByte (getD st (v * n + v) 0)) n → c′ ≡ table (class p m′) (size p) →
+        recordInto p st m c ≡ recorded 0 m′ c′
+    unfolding recordInto recordOf
+    record-done n e m′ c′ f g =
+        let h : m′ ≡ endMarks p (own p) st = (rw e at f) ∙ marks-same p st in
+        rw (zero, g, h)
+
+module _ (p bs st ns : List ℕ) where
+  pub run-told : (n : ℕ) → n ≡ size p → (b : Bool) → b ≡ (eqb (length st) (n * n) && eqb (length bs % 3) 0 && eqb (length ns) (length bs / 3)) →
+      (r : ℕ) → r ≡ fitNumber p b → r ≡ runNumber p bs st ns
+  unfolding runNumber stateFits own
+  run-told n e b f r g = g ∙ rw (f, e)
+
+  pub run-long : runNumber p bs st ns ≡ 0 → length ns ≡ length bs / 3
+  unfolding runNumber
+  run-long z = eqb-true _ _ (and-right (stateFits p (own p) st && eqb (length bs % 3) 0) _ (fit-told p _ z .1))
