@@ -29,7 +29,7 @@ pub record Before (cs : List ℕ) (v b : ℕ) : Type 0 where
   pub less : b < v
   pub most : (c : ℕ) → In c cs → c < v → c ≤ b
 
-pub before-from : {d : ℕ} {cs : List ℕ} {v : ℕ} → Rising d cs → In v cs → Before (d ∷ cs) v (beforeIn d cs v)
+before-from : {d : ℕ} {cs : List ℕ} {v : ℕ} → Rising d cs → In v cs → Before (d ∷ cs) v (beforeIn d cs v)
 unfolding beforeIn
 before-from {d} {v = v} (next {c = a} {cs = cs} h r) i = go (eqb a v) refl (before-from r) i
   where

@@ -23,7 +23,7 @@ use Rattle.runs.proofs.Net.{Move, occur, relay, learn, passes, relayed,
 use Rattle.runs.proofs.Safe.{InStep, step-on, steps-on}
 
 -- each event happens, and every site is told of it before the next
-unfoldable pub script : Layout → List Event → List Move
+unfoldable script : Layout → List Event → List Move
 script lay [] = []
 script lay (e ∷ es) = occur e ∷ (map (relay e) (upFrom 0 (lay .rows)) ++ script lay es)
 
@@ -79,7 +79,7 @@ module _ (p : List ℕ) (lay : Layout) where
       relays-heard (moved p lay rows (relay e y)) e i l a (step-keeps rows (relay e y) (siteOf p lay e) e h)
 
 -- the host of an event that applies is in the plan
-pub host-in : (p : List ℕ) → Accepted p → (e : Event) → applies p e ≡ true → hostOf p e < size p
+host-in : (p : List ℕ) → Accepted p → (e : Event) → applies p e ≡ true → hostOf p e < size p
 unfolding applies appliesBy hostOf hostBy
 host-in p ok e a = go (e .code) (e .node) (ltb-true (e .node) (size p) (search parts)) (search parts)
   where
@@ -103,7 +103,7 @@ module _ (p : List ℕ) (ok : Accepted p) (lay : Layout) (housed : Housed p lay)
   site-in e a = housed (hostOf p e) (host-in p ok e a)
 
   -- where its site has heard all, an allowed event passes
-  pub allowed-pass : (es : List Event) (rows : ℕ → Event → Bool) → InStep p lay es rows → Heard p lay es rows → (e : Event) →
+  allowed-pass : (es : List Event) (rows : ℕ → Event → Bool) → InStep p lay es rows → Heard p lay es rows → (e : Event) →
       allowed p (reaches fresh es) e ≡ true → passes p lay rows e ≡ true
   unfolding allowed passes
   allowed-pass es rows sound heard e h =

@@ -18,6 +18,9 @@ use Rattle.central.specs.Central.{Answer, none, said-yes, said-no, Central, fre
 use Rattle.runs.proofs.Said.{saidBy, said, said-after, said-fresh, same-event}
 use Rattle.runs.proofs.Family.{xor-child}
 
+-- Of the events that a state says happened: a started node was in its place, each event applies, a pick was of an offered child and the only one
+-- of its parent, what committed in an xor was picked and what was turned down had a picked sibling, answers are a started node's, and what
+-- finished or failed could do so and still could by its children.
 pub record Good (p : List ℕ) (s : Central) : Type 0 where
   pub placed : (v : ℕ) → said p s (at start v) ≡ true → mayStart p s v ≡ true
   pub known : (f : Event) → said p s f ≡ true → applies p f ≡ true
@@ -64,7 +67,7 @@ module _ (p : List ℕ) (s t : Central) (grows : Grows p s t) where
       go true h = grows (at answered-no u) h
       go false h = grows (at answered-yes u) h
 
-  pub place-grows : (v : ℕ) → mayStart p s v ≡ true → mayStart p t v ≡ true
+  place-grows : (v : ℕ) → mayStart p s v ≡ true → mayStart p t v ≡ true
   unfolding mayStart said saidBy
   place-grows v h = go (eqb v 0) h
     where
@@ -77,7 +80,7 @@ module _ (p : List ℕ) (s t : Central) (grows : Grows p s t) where
   unfolding said saidBy
   ended c = or-grows _ _ _ _ (grows (at commit c)) (grows (at abort c))
 
-  pub finishes-grows : (k : Kind) (v : ℕ) (cs : List ℕ) → finishesBy k s v cs ≡ true → finishesBy k t v cs ≡ true
+  finishes-grows : (k : Kind) (v : ℕ) (cs : List ℕ) → finishesBy k s v cs ≡ true → finishesBy k t v cs ≡ true
   unfolding finishesBy said saidBy
   finishes-grows task v cs h = refl
   finishes-grows serial v cs h = all-grows _ (marked t committed) cs (λ c. grows (at commit c)) h
@@ -94,7 +97,7 @@ module _ (p : List ℕ) (s t : Central) (grows : Grows p s t) where
       branch-grows (marked s committed) (marked t committed) (λ c. grows (at commit c)) (s .answer v) (t .answer v)
       (grows (at answered-yes v)) (grows (at answered-no v)) cs h
 
-  pub fails-grows : (k : Kind) (v : ℕ) (cs : List ℕ) → failsBy k s v cs ≡ true → failsBy k t v cs ≡ true
+  fails-grows : (k : Kind) (v : ℕ) (cs : List ℕ) → failsBy k s v cs ≡ true → failsBy k t v cs ≡ true
   unfolding failsBy said saidBy
   fails-grows task v cs h = refl
   fails-grows serial v cs h = any-grows _ (marked t failed) cs (λ c. grows (at abort c)) h
@@ -133,7 +136,7 @@ module _ (p : List ℕ) (s : Central) (e : Event) (good : Good p s) (ok : allowe
       (λ x. let b = rw x at a in let o : marked s offered v ≡ true = search parts in good .offer-held v (rw o))
       (λ x. let b = rw x at a in search parts)
 
-  pub good-after : Good p (after s e)
+  good-after : Good p (after s e)
   unfolding allowed allowedBy said saidBy
   good-after = record {
     placed = λ v h. cases (new (at start v) h)

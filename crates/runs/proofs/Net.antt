@@ -13,7 +13,7 @@ pub data Move : Type 0 where
   relay : Event → ℕ → Move
 
 unfoldable pub learn : (ℕ → Event → Bool) → ℕ → Event → ℕ → Event → Bool
-learn rows q e r f = (eqb r q && same e f) || rows r f
+learn rows q e r f = (eqb q r && same e f) || rows r f
 
 unfoldable pub passes : List ℕ → Layout → (ℕ → Event → Bool) → Event → Bool
 passes p lay rows e = applies p e && not (barred p (rows (siteOf p lay e)) e) && holds (rows (siteOf p lay e)) (guard p e)

@@ -45,7 +45,7 @@ module _ (p : List ℕ) (ok : Accepted p) (s : Central) (good : Good p s) (stuck
   no-answer e = agree .says-no v (rw e)
 
   -- the answer is the place of the picked child
-  pub pick-answer : (c : ℕ) → In c (children p v) → s .picked c ≡ true → getD a v 0 ≡ suc (length (earlier (children p v) c))
+  pick-answer : (c : ℕ) → In c (children p v) → s .picked c ≡ true → getD a v 0 ≡ suc (length (earlier (children p v) c))
   unfolding said saidBy placeOf
   pick-answer c i k = subst (λ (u : ℕ). getD a u 0 ≡ suc (length (earlier (children p u) c))) (child-of p v i .of) (agree .picks c k)
 
@@ -55,7 +55,7 @@ module _ (p : List ℕ) (ok : Accepted p) (s : Central) (good : Good p s) (stuck
 
   -- c stands behind the children ds
   module _ (ds : List ℕ) (c : ℕ) (cs : List ℕ) (split : children p v ≡ ds ++ (c ∷ cs)) where
-    pub here-in : In c (children p v)
+    here-in : In c (children p v)
     here-in = rw split (in-right ds (here refl))
 
     before : earlier (children p v) c ≡ ds
@@ -68,7 +68,7 @@ module _ (p : List ℕ) (ok : Accepted p) (s : Central) (good : Good p s) (stuck
     in-before d i l = rw before at (in-earlier i l)
 
     -- an xor's answer is the place of the child that committed
-    pub pick-place : kind p v ≡ xor → Either (s .mark c ≡ committed) (s .mark c ≡ turned-down) → eqb (suc (length ds)) (getD a v 0) ≡ marked s committed c
+    pick-place : kind p v ≡ xor → Either (s .mark c ≡ committed) (s .mark c ≡ turned-down) → eqb (suc (length ds)) (getD a v 0) ≡ marked s committed c
     unfolding said saidBy isKind kindNumber isMark markNumber
     pick-place k q = cases q
         (λ e. rw (e, pick-answer c here-in (good .commit-picked c (child-xor p v c here-in ∙ rw k) (rw e)), before) (eq-eqb (suc (length ds)) (suc (length ds)) refl))
@@ -136,7 +136,7 @@ module _ (p : List ℕ) (ok : Accepted p) (s : Central) (good : Good p s) (stuck
           (λ x. rw x (cases q (λ e. rw e) (λ e. clash _ (down-xor p s good c (rw e)) (child-xor p v c here-in ∙ x)))))
 
       module _ (f : ℕ → List ℕ → Settled) (y : started s c ≡ true → Settles p s c (t .marks) (f c (t .marks))) where
-        pub turn : Tallied p s v (ds ++ (c ∷ [])) m (meet f (kind p v) (getD a v 0) t c)
+        turn : Tallied p s v (ds ++ (c ∷ [])) m (meet f (kind p v) (getD a v 0) t c)
         unfolding meet meetBy noted childMark outcomeOf isMark markNumber
         turn = cases (decided (started s c))
             (λ x. cases (decided (marked s failed c))

@@ -1,6 +1,6 @@
 -- Runs one event longer; and that every run goes on to a stuck one, since an event that is allowed can be found and no run is long. Assumes nothing.
 use mathlib.Core.Path.{_≡_, refl, _∙_, subst}
-use mathlib.Core.Bool.{Bool, true, false, _&&_, _||_, or-false}
+use mathlib.Core.Bool.{Bool, true, false, _&&_, _||_}
 use mathlib.Core.List.{List, [], _∷_, _++_, map, append-assoc, append-nil}
 use Prim.Native.Nat.{ℕ, zero, suc, _+_, _*_, _≤_}
 use lib.ListN.{length, length-append}
@@ -8,8 +8,8 @@ use native.Mathlib.Omega.{arith}
 use Rattle.lists.specs.Seq.{any, upFrom}
 use Rattle.lists.specs.Member.{Either, left, right, In, here, there}
 use Rattle.lists.proofs.Logic.{cases, no-bool, clash, decided}
-use Rattle.lists.proofs.Members.{any-by, any-at, any-append, in-up}
-use Rattle.lists.proofs.Points.{in-left, in-right, map-in}
+use Rattle.lists.proofs.Members.{any-by, any-at, in-up}
+use Rattle.lists.proofs.Points.{in-left, in-right, any-snoc, map-in}
 use Rattle.plan.specs.Plan.{size}
 use Rattle.event.specs.Event.{Event, at, same, among}
 use Rattle.event.proofs.CodeLaws.{codes, in-codes}
@@ -37,8 +37,8 @@ unfolding isRun runFrom
 run-more p es e h a = run-append p fresh es (e ∷ []) ∙ rw (h, a)
 
 pub among-more : (es : List Event) (e f : Event) → among (es ++ (e ∷ [])) f ≡ (among es f || same e f)
-unfolding among any
-among-more es e f = any-append (λ g. same g f) es (e ∷ []) ∙ simp or-false
+unfolding among
+among-more es e f = any-snoc (λ g. same g f) es e
 
 -- the events of nodes
 nodeEvents : List ℕ → List Event

@@ -47,7 +47,7 @@ bars-site : (p : List ℕ) (lay : Layout) (e : Event) {f : Event} → In f (bars
 unfolding siteOf hostOf bars
 bars-site p lay e i = ap (lay .home) (bars-host p (e .code) (e .node) i)
 
-pub holds-grows : (H K : Event → Bool) (g : List (List Event)) → ((f : Event) → H f ≡ true → K f ≡ true) → holds H g ≡ true → holds K g ≡ true
+holds-grows : (H K : Event → Bool) (g : List (List Event)) → ((f : Event) → H f ≡ true → K f ≡ true) → holds H g ≡ true → holds K g ≡ true
 unfolding holds
 holds-grows H K g h = all-grows (any H) (any K) g (λ es. any-grows H K es h)
 
@@ -59,7 +59,7 @@ pub record InStep (p : List ℕ) (lay : Layout) (es : List Event) (rows : ℕ �
 
 module _ (p : List ℕ) (ok : Accepted p) (lay : Layout) (es : List Event) (rows : ℕ → Event → Bool) (sound : InStep p lay es rows) where
   -- an event that its site lets pass is allowed
-  pub pass-allowed : (e : Event) → passes p lay rows e ≡ true → allowed p (reaches fresh es) e ≡ true
+  pass-allowed : (e : Event) → passes p lay rows e ≡ true → allowed p (reaches fresh es) e ≡ true
   unfolding passes barred
   pass-allowed e h = sym (guards-follow p ok es (sound .run) (among es) (λ f. refl) e (search parts)) ∙ and-join _ _ not-barred guarded
     where
@@ -79,19 +79,19 @@ module _ (p : List ℕ) (ok : Accepted p) (lay : Layout) (es : List Event) (rows
   unfolding learn
   happens e h = record {
     run = run-more p es e (sound .run) (pass-allowed e h);
-    true-to = λ q f k. among-more es e f ∙ cases ((either (eqb q (siteOf p lay e) && same e f) (rows q f)) .0 k)
+    true-to = λ q f k. among-more es e f ∙ cases ((either (eqb (siteOf p lay e) q && same e f) (rows q f)) .0 k)
         (λ a. rw ((simp both at a) .1, or-true))
         (λ b. rw (sound .true-to q f b));
     own = λ f k. cases ((either (among es f) (same e f)) .0 (sym (among-more es e f) ∙ k))
         (λ a. rw (sound .own f a, or-true))
-        (λ b. rw (b, eq-eqb (siteOf p lay f) (siteOf p lay e) (ap (siteOf p lay) (sym (same-event e f b)))));
+        (λ b. rw (b, eq-eqb (siteOf p lay e) (siteOf p lay f) (ap (siteOf p lay) (same-event e f b))));
   }
 
   hears : (e : Event) (q : ℕ) → relayed p lay rows e q ≡ true → InStep p lay es (learn rows q e)
   unfolding learn relayed
   hears e q h = record {
     run = sound .run;
-    true-to = λ r f k. cases ((either (eqb r q && same e f) (rows r f)) .0 k)
+    true-to = λ r f k. cases ((either (eqb q r && same e f) (rows r f)) .0 k)
         (λ a. subst (λ (g : Event). among es g ≡ true) (same-event e f ((simp both at a) .1)) (sound .true-to (siteOf p lay e) e (search parts)))
         (sound .true-to r f);
     own = λ f k. rw (sound .own f k, or-true);

@@ -1,5 +1,5 @@
--- A stuck state: every started node has ended. From the leaves up, a running node whose children have ended could finish or fail, and an offered
--- one could be picked, commit or be turned down. Assumes nothing.
+-- What a stuck state shuts out: a node that could start, a running one that could finish or fail, an offered one, a conditional without an answer.
+-- Assumes nothing.
 use mathlib.Core.Path.{_≡_, refl}
 use mathlib.Core.Bool.{true, false, not, _&&_}
 use mathlib.Core.List.{List, [], _∷_}
@@ -27,17 +27,12 @@ pub record Two (cs : List ℕ) (a b : ℕ) : Type 0 where
   pub rise : a < b
   pub first : In a cs
   pub second : In b cs
-  pub only : (c : ℕ) → In c cs → Either (c ≡ a) (c ≡ b)
 
 pub two-of : {d : ℕ} (cs : List ℕ) → Rising d cs → length cs ≡ 2 → (a : ℕ) × (b : ℕ) × Two cs a b
 two-of [] r e = absurd (omega arith)
 two-of (a ∷ []) r e = absurd (omega arith)
 two-of (a ∷ b ∷ c ∷ cs) r e = absurd (omega arith)
-two-of (a ∷ b ∷ []) (next h (next k end)) e = (a, b, record { are = refl; rise = k; first = here refl; second = there (here refl); only = only })
-  where
-    only : (c : ℕ) → In c (a ∷ b ∷ []) → Either (c ≡ a) (c ≡ b)
-    only c (here q) = left q
-    only c (there (here q)) = right q
+two-of (a ∷ b ∷ []) (next h (next k end)) e = (a, b, record { are = refl; rise = k; first = here refl; second = there (here refl) })
 
 module _ (p : List ℕ) (ok : Accepted p) (s : Central) (stuck : Stuck p s) where
   -- what applies is not allowed

@@ -4,9 +4,9 @@ use mathlib.Core.Bool.{Bool, true, false, _&&_, _||_, cond, or-false}
 use mathlib.Core.List.{List, [], _∷_, _++_, map}
 use Prim.Native.Nat.{ℕ, _*_, _<_}
 use lib.Dec.{eqb}
-use borrow.Author.Tests.{eq-eqb, eqb-true, ltb-true}
+use borrow.Author.Tests.{ltb-true}
 use Rattle.lists.specs.Seq.{any}
-use Rattle.lists.proofs.Logic.{cases, same-bool, and-right, parts, decided}
+use Rattle.lists.proofs.Logic.{cases, and-right, parts, decided}
 use Rattle.lists.proofs.Members.{any-append}
 use Rattle.plan.specs.Plan.{size}
 use Rattle.plan.specs.Check.{Accepted}
@@ -65,9 +65,6 @@ module _ (p : List ℕ) (lay : Layout) (rows : ℕ → Event → Bool) where
   quiet m true h = let r = stays m h in (sym (r .0), sym (rw (r .1)))
   quiet m false h = (refl, refl)
 
-eqb-swap : (a b : ℕ) → eqb a b ≡ eqb b a
-eqb-swap a b = same-bool _ _ (λ h. eq-eqb b a (sym (eqb-true a b h))) (λ h. eq-eqb a b (sym (eqb-true b a h)))
-
 among-one : (b : Bool) (e f : Event) → among (cond b (e ∷ []) []) f ≡ (b && same e f)
 unfolding among any
 among-one true e f = rw or-false
@@ -125,7 +122,7 @@ module _ (p : List ℕ) (ok : Accepted p) (lay : Layout) (housed : Housed p lay)
       unfolding learn
       then-hears q f =
           ap (λ (g : ℕ → Event → Bool). g q f) then-seen
-          ∙ ap (λ (b : Bool). b || view p st q f) (ap (λ (b : Bool). b && same (eventOf code node) f) (eqb-swap q r) ∙ sym (among-one (eqb r q) (eventOf code node) f))
+          ∙ ap (λ (b : Bool). b || view p st q f) (sym (among-one (eqb r q) (eventOf code node) f))
 
     event-did : (n : ℕ) → eqb n 0 ≡ (isCode code && passes p lay (view p st) (eventOf code node)) →
         Did st (event code node) n (cond (eqb n 0) (withRow p st (siteOf p lay (eventOf code node)) (hear (rowOf p st (siteOf p lay (eventOf code node))) code node)) st)

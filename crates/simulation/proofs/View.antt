@@ -93,12 +93,12 @@ module _ (p : List ℕ) (k : ℕ) (st : List ℕ) (fine : Bytes (k * size p) st)
 
   view-there : (r : ℕ) (f : Event) → f .node < size p → view p (set st spot new) r f ≡ learn (view p st) q e r f
   unfolding learn same
-  view-there r f l = cases (decided (eqb r q))
+  view-there r f l = cases (decided (eqb q r))
       (λ h. cases (decided (eqb (e .node) (f .node)))
-      (λ g. rw (h, eqb-true r q h) (view-hit f l (eqb-true (e .node) (f .node) g)))
-      (λ g. let n = eqb-false (e .node) (f .node) g in let z = eqb-true r q h in
+      (λ g. rw (h, ← (eqb-true q r h)) (view-hit f l (eqb-true (e .node) (f .node) g)))
+      (λ g. let n = eqb-false (e .node) (f .node) g in let z = eqb-true q r h in
       view-miss r f l (λ w. n (omega (arith, ap (λ (k : ℕ). k * size p) z))) ∙ sym (rw (g, and-false, and-false))))
-      (λ h. view-miss r f l (row-apart (size p) r q (f .node) (e .node) l node (eqb-false r q h)) ∙ sym (rw h))
+      (λ h. view-miss r f l (row-apart (size p) r q (f .node) (e .node) l node (λ z. eqb-false q r h (sym z))) ∙ sym (rw h))
 
   pub view-hear : view p after-hear ≡ learn (view p st) q e
   unfolding learn same
