@@ -1,0 +1,17 @@
+-- A result for C, 32 bits: the number in bits 0 to 7, the event's site in bits 8 to 15, a value in bits 16 to 31. Definitions only.
+use Prim.Native.Nat.{ℕ, _+_, _*_}
+use Rattle.guard.specs.declared.Written.{Written}
+use Rattle.guard.specs.declared.Written.the-variants as written
+use Rattle.site.specs.Verdict.{verdictNumber, verdictSite}
+use Rattle.site.specs.declared.Verdict.{Verdict}
+
+abbrev pub result : ℕ → ℕ → ℕ → ℕ
+result n q v = n + 256 * q + 65536 * v
+
+-- the guard's length is the value
+unfoldable pub ofWritten : Written → ℕ
+ofWritten (written.Done n) = result 0 0 n
+ofWritten (written.Refused n) = result n 0 0
+
+unfoldable pub ofVerdict : Verdict → ℕ
+ofVerdict v = result (verdictNumber v) (verdictSite v) 0

@@ -1,0 +1,84 @@
+// The C interface (include/vulcedar.h): exported functions, nothing else. Numbers are 32 bits wide and are not cut, a slice is a pointer and
+// a length, and every length is tested inside. What a result holds is specs/Result.antt.
+ghost use mathlib.Core.Path.{_≡_};
+ghost use Prim.Native.Nat.{_+_, _*_, _≤_};
+ghost use Rattle.plan.specs.Check.{checkNumber};
+ghost use Rattle.guard.specs.Written.{writeOf};
+ghost use Rattle.site.specs.Step.{stepOf, hearOf};
+ghost use Rattle.pass.specs.Pass.{passInto};
+ghost use Rattle.simulation.specs.Run.{simulateOf, recordInto};
+ghost use Rattle.vulcedar.specs.Result.{result, ofWritten, ofVerdict};
+
+fn wide32(x: u8) -> u32
+    ensures { λ r. ⌜ r ≡ x ⌝ }
+{
+    x as u32
+}
+
+fn packed(number: u8, site: u8) -> u32
+    ensures { λ r. ⌜ r ≡ result number site 0 ⌝ }
+{
+    wide32(number) + 256 * wide32(site)
+}
+
+#[no_mangle]
+pub extern "C" fn vulcedar_check(plan: &[u8]) -> u32
+    ensures { λ r. ⌜ r ≡ result (checkNumber (now (plan .entry))) 0 0 ⌝ }
+{
+    packed(plan::check(plan), 0)
+}
+
+#[no_mangle]
+pub extern "C" fn vulcedar_guard(plan: &[u8], code: u32, node: u32, buf: &mut [u8]) -> u32
+    ensures { λ r. ⌜ r ≡ ofWritten (writeOf (now (plan .entry)) code node (now (buf .entry)) .answer) ⌝ }
+    ensures { λ r. ⌜ now (buf .exit) ≡ writeOf (now (plan .entry)) code node (now (buf .entry)) .buffer ⌝ }
+{
+    let w = guard::write_guard(plan, code, node, buf);
+    match w {
+        guard::Written::Done(n) => 65536 * (n as u32),
+        guard::Written::Refused(n) => packed(n, 0),
+    }
+}
+
+#[no_mangle]
+pub extern "C" fn vulcedar_step(plan: &[u8], code: u32, node: u32, row: &mut [u8]) -> u32
+    ensures { λ r. ⌜ r ≡ ofVerdict (stepOf (now (plan .entry)) code node (now (row .entry)) .verdict) ⌝ }
+    ensures { λ r. ⌜ now (row .exit) ≡ stepOf (now (plan .entry)) code node (now (row .entry)) .row ⌝ }
+{
+    let v = site::step(plan, code, node, row);
+    packed(site::number(v), site::verdict_site(v))
+}
+
+#[no_mangle]
+pub extern "C" fn vulcedar_hear(plan: &[u8], code: u32, node: u32, row: &mut [u8]) -> u32
+    ensures { λ r. ⌜ r ≡ result (hearOf (now (plan .entry)) code node (now (row .entry)) .number) 0 0 ⌝ }
+    ensures { λ r. ⌜ now (row .exit) ≡ hearOf (now (plan .entry)) code node (now (row .entry)) .row ⌝ }
+{
+    packed(site::hear(plan, code, node, row), 0)
+}
+
+#[no_mangle]
+pub extern "C" fn vulcedar_pass(plan: &[u8], answers: &[u8], marks: &mut [u8]) -> u32
+    ensures { λ r. ⌜ r ≡ result (passInto (now (plan .entry)) (now (answers .entry)) (now (marks .entry)) .number) 0 0 ⌝ }
+    ensures { λ r. ⌜ now (marks .exit) ≡ passInto (now (plan .entry)) (now (answers .entry)) (now (marks .entry)) .marks ⌝ }
+{
+    packed(pass::pass(plan, answers, marks), 0)
+}
+
+#[no_mangle]
+pub extern "C" fn vulcedar_simulate(plan: &[u8], code: u32, node: u32, site: u32, state: &mut [u8]) -> u32
+    ensures { λ r. ⌜ r ≡ result (simulateOf (now (plan .entry)) code node site (now (state .entry)) .number) (simulateOf (now (plan .entry)) code node site (now (state .entry)) .site) 0 ⌝ }
+    ensures { λ r. ⌜ now (state .exit) ≡ simulateOf (now (plan .entry)) code node site (now (state .entry)) .state ⌝ }
+{
+    let r = simulation::simulate(plan, code, node, site, state);
+    packed(r.number, r.site)
+}
+
+#[no_mangle]
+pub extern "C" fn vulcedar_record(plan: &[u8], state: &[u8], marks: &mut [u8], classes: &mut [u8]) -> u32
+    ensures { λ r. ⌜ r ≡ result (recordInto (now (plan .entry)) (now (state .entry)) (now (marks .entry)) (now (classes .entry)) .number) 0 0 ⌝ }
+    ensures { λ r. ⌜ now (marks .exit) ≡ recordInto (now (plan .entry)) (now (state .entry)) (now (marks .entry)) (now (classes .entry)) .marks ⌝ }
+    ensures { λ r. ⌜ now (classes .exit) ≡ recordInto (now (plan .entry)) (now (state .entry)) (now (marks .entry)) (now (classes .entry)) .classes ⌝ }
+{
+    packed(simulation::record(plan, state, marks, classes), 0)
+}
