@@ -1,9 +1,9 @@
 -- Ends in the terms of the code: whether a running node may finish or fail, by its kind byte, and whether it may commit. Assumes nothing.
-use mathlib.Core.Path.{_≡_, refl, sym, ap, _∙_}
+use mathlib.Core.Path.{_≡_, refl, sym, _∙_}
 use mathlib.Core.Bool.{Bool, true, false, _&&_, not}
 use mathlib.Core.List.{List, [], _∷_}
 use mathlib.Core.Logic.{⊎-elim}
-use Prim.Native.Nat.{ℕ, zero, suc, _-_, _≤_, _<_}
+use Prim.Native.Nat.{ℕ, _-_, _≤_, _<_}
 use native.Mathlib.Omega.{arith}
 use lib.Dec.{eqb}
 use lib.ListN.{length, getD}
@@ -14,9 +14,9 @@ use Rattle.plan.specs.Plan.{xor, kindNumber, kindOf, size, kindByte, kind, chil
 use Rattle.plan.specs.Check.{Accepted}
 use Rattle.plan.proofs.PlanLaws.{kind-byte}
 use Rattle.plan.proofs.KindLaws.{is-kind, above-byte}
-use Rattle.event.specs.Event.{commit, abort}
+use Rattle.event.specs.Event.{commit}
 use Rattle.event.proofs.CodeLaws.{two}
-use Rattle.central.specs.Mark.{running, offered, committed, failed}
+use Rattle.central.specs.Mark.{committed, failed}
 use Rattle.central.specs.Central.{Answer, none, said-yes, said-no, Central, marked, ofBranch, finishesBy, failsBy, allowedBy}
 use Rattle.central.specs.Rule.{answerOf, stateOf}
 use Rattle.central.specs.Scan.{answerNumber, markIn, pickedAt}
@@ -63,70 +63,63 @@ or-to-contingency : (k : ℕ) (s : Central) (v : ℕ) (cs : List ℕ) → 4 ≤ 
 unfolding failsBy kindOf
 or-to-contingency k s v cs a b = ⊎-elim (λ h. rw h) (⊎-elim (λ h. rw h) (λ h. rw h)) (three 4 k a b)
 
--- v is running, and its children let it finish
-abbrev pub finish : List ℕ → List ℕ → List ℕ → ℕ → Bool
-finish p marks notes v = marked (stateOf marks notes) running v && finishesBy (kind p v) (stateOf marks notes) v (children p v)
+-- whether v may finish or fail, by its kind byte k
+module _ (p marks notes : List ℕ) (v k : ℕ) (e : k ≡ kindByte p v) where
+  finish-kind : finishesBy (kind p v) (stateOf marks notes) v (children p v) ≡ finishesBy (kindOf k) (stateOf marks notes) v (children p v)
+  finish-kind = rw (kind-byte p v, e)
 
+  pub finish-all : 2 ≤ k → k ≤ 3 → all (markIn 8 marks) (children p v) ≡ finishesBy (kind p v) (stateOf marks notes) v (children p v)
+  finish-all a b = sym (finish-kind ∙ rw (in-committed marks notes) (serial-and k (stateOf marks notes) v (children p v) a b))
+
+  pub finish-or : k ≡ 4 →
+      (all (markIn 24 marks) (children p v) && any (markIn 8 marks) (children p v)) ≡ finishesBy (kind p v) (stateOf marks notes) v (children p v)
+  unfolding finishesBy kindOf
+  finish-or h = sym (finish-kind ∙ rw (h, in-ended marks notes, in-committed marks notes))
+
+  pub finish-xor : k ≡ 5 →
+      (all (markIn 56 marks) (children p v) && any (markIn 8 marks) (children p v)) ≡ finishesBy (kind p v) (stateOf marks notes) v (children p v)
+  unfolding finishesBy kindOf
+  finish-xor h = sym (finish-kind ∙ rw (h, in-settled marks notes, in-committed marks notes))
+
+  pub finish-any : k ≡ 6 → any (markIn 8 marks) (children p v) ≡ finishesBy (kind p v) (stateOf marks notes) v (children p v)
+  unfolding finishesBy kindOf
+  finish-any h = sym (finish-kind ∙ rw (h, in-committed marks notes))
+
+  pub finish-branch : k ≡ 7 →
+      ofBranch (markIn 8 marks) (answerOf (getD notes v 0)) (children p v) ≡ finishesBy (kind p v) (stateOf marks notes) v (children p v)
+  unfolding finishesBy kindOf
+  finish-branch h = sym (finish-kind ∙ rw (h, in-committed marks notes, answer-read marks notes v))
+
+  pub finish-task : (2 ≤ k → k ≤ 7 → ⊥) → true ≡ finishesBy (kind p v) (stateOf marks notes) v (children p v)
+  unfolding finishesBy
+  finish-task h = sym (finish-kind ∙ rw (kind-other k h))
+
+  fail-kind : failsBy (kind p v) (stateOf marks notes) v (children p v) ≡ failsBy (kindOf k) (stateOf marks notes) v (children p v)
+  fail-kind = rw (kind-byte p v, e)
+
+  pub fail-any : k ≡ 2 → any (markIn 16 marks) (children p v) ≡ failsBy (kind p v) (stateOf marks notes) v (children p v)
+  unfolding failsBy kindOf
+  fail-any h = sym (fail-kind ∙ rw (h, in-failed marks notes))
+
+  pub fail-and : k ≡ 3 →
+      (all (markIn 24 marks) (children p v) && any (markIn 16 marks) (children p v)) ≡ failsBy (kind p v) (stateOf marks notes) v (children p v)
+  unfolding failsBy kindOf
+  fail-and h = sym (fail-kind ∙ rw (h, in-ended marks notes, in-failed marks notes))
+
+  pub fail-all : 4 ≤ k → k ≤ 6 → all (markIn 16 marks) (children p v) ≡ failsBy (kind p v) (stateOf marks notes) v (children p v)
+  fail-all a b = sym (fail-kind ∙ rw (in-failed marks notes) (or-to-contingency k (stateOf marks notes) v (children p v) a b))
+
+  pub fail-branch : k ≡ 7 →
+      ofBranch (markIn 16 marks) (answerOf (getD notes v 0)) (children p v) ≡ failsBy (kind p v) (stateOf marks notes) v (children p v)
+  unfolding failsBy kindOf
+  fail-branch h = sym (fail-kind ∙ rw (h, in-failed marks notes, answer-read marks notes v))
+
+  pub fail-task : (2 ≤ k → k ≤ 7 → ⊥) → true ≡ failsBy (kind p v) (stateOf marks notes) v (children p v)
+  unfolding failsBy
+  fail-task h = sym (fail-kind ∙ rw (kind-other k h))
+
+-- a commit, by the kind byte above
 module _ (p marks notes : List ℕ) (v : ℕ) where
-  pub finish-not : markIn 2 marks v ≡ false → false ≡ finish p marks notes v
-  finish-not h = rw (at-running marks notes v, h)
-
-  pub fail-not : markIn 2 marks v ≡ false → false ≡ allowedBy p (stateOf marks notes) abort v
-  unfolding allowedBy
-  fail-not h = rw (at-running marks notes v, h)
-
-  -- by the kind byte k
-  module _ (k : ℕ) (e : k ≡ kindByte p v) (run : markIn 2 marks v ≡ true) where
-    finish-kind : finish p marks notes v ≡ finishesBy (kindOf k) (stateOf marks notes) v (children p v)
-    finish-kind = rw (at-running marks notes v, run, kind-byte p v, e)
-
-    pub finish-all : 2 ≤ k → k ≤ 3 → all (markIn 8 marks) (children p v) ≡ finish p marks notes v
-    finish-all a b = sym (finish-kind ∙ rw (in-committed marks notes) (serial-and k (stateOf marks notes) v (children p v) a b))
-
-    pub finish-or : k ≡ 4 → (all (markIn 24 marks) (children p v) && any (markIn 8 marks) (children p v)) ≡ finish p marks notes v
-    unfolding finishesBy kindOf
-    finish-or h = sym (finish-kind ∙ rw (h, in-ended marks notes, in-committed marks notes))
-
-    pub finish-xor : k ≡ 5 → (all (markIn 56 marks) (children p v) && any (markIn 8 marks) (children p v)) ≡ finish p marks notes v
-    unfolding finishesBy kindOf
-    finish-xor h = sym (finish-kind ∙ rw (h, in-settled marks notes, in-committed marks notes))
-
-    pub finish-any : k ≡ 6 → any (markIn 8 marks) (children p v) ≡ finish p marks notes v
-    unfolding finishesBy kindOf
-    finish-any h = sym (finish-kind ∙ rw (h, in-committed marks notes))
-
-    pub finish-branch : k ≡ 7 → ofBranch (markIn 8 marks) (answerOf (getD notes v 0)) (children p v) ≡ finish p marks notes v
-    unfolding finishesBy kindOf
-    finish-branch h = sym (finish-kind ∙ rw (h, in-committed marks notes, answer-read marks notes v))
-
-    pub finish-task : (2 ≤ k → k ≤ 7 → ⊥) → true ≡ finish p marks notes v
-    unfolding finishesBy
-    finish-task h = sym (finish-kind ∙ rw (kind-other k h))
-
-    fail-kind : allowedBy p (stateOf marks notes) abort v ≡ failsBy (kindOf k) (stateOf marks notes) v (children p v)
-    unfolding allowedBy
-    fail-kind = rw (at-running marks notes v, run, kind-byte p v, e)
-
-    pub fail-any : k ≡ 2 → any (markIn 16 marks) (children p v) ≡ allowedBy p (stateOf marks notes) abort v
-    unfolding failsBy kindOf
-    fail-any h = sym (fail-kind ∙ rw (h, in-failed marks notes))
-
-    pub fail-and : k ≡ 3 → (all (markIn 24 marks) (children p v) && any (markIn 16 marks) (children p v)) ≡ allowedBy p (stateOf marks notes) abort v
-    unfolding failsBy kindOf
-    fail-and h = sym (fail-kind ∙ rw (h, in-ended marks notes, in-failed marks notes))
-
-    pub fail-all : 4 ≤ k → k ≤ 6 → all (markIn 16 marks) (children p v) ≡ allowedBy p (stateOf marks notes) abort v
-    fail-all a b = sym (fail-kind ∙ rw (in-failed marks notes) (or-to-contingency k (stateOf marks notes) v (children p v) a b))
-
-    pub fail-branch : k ≡ 7 → ofBranch (markIn 16 marks) (answerOf (getD notes v 0)) (children p v) ≡ allowedBy p (stateOf marks notes) abort v
-    unfolding failsBy kindOf
-    fail-branch h = sym (fail-kind ∙ rw (h, in-failed marks notes, answer-read marks notes v))
-
-    pub fail-task : (2 ≤ k → k ≤ 7 → ⊥) → true ≡ allowedBy p (stateOf marks notes) abort v
-    unfolding failsBy
-    fail-task h = sym (fail-kind ∙ rw (kind-other k h))
-
-  -- an xor's child, by the kind byte above it
   xor-above : inXor p v ≡ eqb (aboveByte p v) 5
   unfolding inXor kindNumber
   xor-above = rw (above-byte p v) (is-kind xor (aboveByte p v) (omega arith))
@@ -135,6 +128,7 @@ module _ (p marks notes : List ℕ) (v : ℕ) where
   unfolding allowedBy
   commit-picked h = rw (xor-above, eq-eqb (aboveByte p v) 5 h, at-offered marks notes v, picked-read marks notes)
 
-  pub commit-finished : (aboveByte p v ≡ 5 → ⊥) → finish p marks notes v ≡ allowedBy p (stateOf marks notes) commit v
+  pub commit-finished : (aboveByte p v ≡ 5 → ⊥) →
+      (markIn 2 marks v && finishesBy (kind p v) (stateOf marks notes) v (children p v)) ≡ allowedBy p (stateOf marks notes) commit v
   unfolding allowedBy
-  commit-finished h = rw (xor-above, ne-eqb (aboveByte p v) 5 h)
+  commit-finished h = rw (xor-above, ne-eqb (aboveByte p v) 5 h, at-running marks notes v)

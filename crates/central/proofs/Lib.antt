@@ -8,3 +8,7 @@ pub mod EndLaws
 pub mod AllowedLaws
 pub mod AdvanceLaws
 pub mod RuleLaws
+pub mod StateLaws
+pub mod ReplayLaws
+pub mod Main
+pub mod Cases

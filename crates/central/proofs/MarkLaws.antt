@@ -1,6 +1,6 @@
 -- Marks by their bytes: what a byte, and a set of marks, says of the state. Tests over all marks are computed. Assumes nothing.
 use mathlib.Core.Path.{_≡_, refl, sym, ap, fun-ext}
-use mathlib.Core.Bool.{Bool, true, false, _&&_, _||_, not, Bool·beq}
+use mathlib.Core.Bool.{Bool, true, false, _||_, not, Bool·beq}
 use mathlib.Core.List.{List, [], _∷_}
 use Prim.Native.Nat.{ℕ, zero, suc, _-_, _^_, _/_, _%_, _≤_, _<_}
 use native.Mathlib.Omega.{arith}
@@ -12,7 +12,7 @@ use Rattle.lists.specs.Member.{In, here, there}
 use Rattle.lists.proofs.Members.{all-at, in-up}
 use Rattle.event.proofs.BitLaws.{beq-true}
 use Rattle.central.specs.Mark.{Mark, idle, running, offered, committed, failed, turned-down, markNumber, isMark, markOf}
-use Rattle.central.specs.Central.{Central, marked}
+use Rattle.central.specs.Central.{marked}
 use Rattle.central.specs.Rule.{stateOf}
 use Rattle.central.specs.Scan.{inSet, markIn}
 

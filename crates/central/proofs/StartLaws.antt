@@ -1,20 +1,19 @@
 -- Starts in the terms of the code: a place that is reached, by the kind byte of the parent, and a node that may start. Assumes nothing.
-use mathlib.Core.Path.{_≡_, refl, sym, ap, _∙_}
-use mathlib.Core.Bool.{Bool, true, false, cond, not}
+use mathlib.Core.Path.{_≡_, sym, _∙_}
+use mathlib.Core.Bool.{true, false, not}
 use mathlib.Core.List.{List}
 use mathlib.Core.Logic.{⊎-elim}
-use Prim.Native.Nat.{ℕ, pred, _+_, _-_, _≤_}
+use Prim.Native.Nat.{ℕ, pred, _-_, _≤_}
 use native.Mathlib.Omega.{arith}
 use lib.Dec.{eqb, ltb}
 use lib.ListN.{getD}
 use borrow.Author.Tests.{ne-eqb}
-use Rattle.lists.specs.Seq.{all, any, keep, upFrom, earlier}
+use Rattle.lists.specs.Seq.{all, any, earlier}
 use Rattle.lists.proofs.Search.{any-kept, earlier-up}
-use Rattle.plan.specs.Plan.{task, kindOf, size, kindByte, kind, parent, childrenBelow, children, above}
+use Rattle.plan.specs.Plan.{kindOf, size, kindByte, kind, parent, childrenBelow, children, above}
 use Rattle.plan.proofs.PlanLaws.{kind-byte}
 use Rattle.event.specs.Event.{start}
-use Rattle.central.specs.Mark.{idle, isMark}
-use Rattle.central.specs.Central.{Central, isYes, isNo, started, reachedBy, mayStart, allowedBy}
+use Rattle.central.specs.Central.{Central, reachedBy, mayStart, allowedBy}
 use Rattle.central.specs.Rule.{answerOf, stateOf}
 use Rattle.central.specs.Scan.{answerNumber, markIn}
 use Rattle.central.proofs.Tests.{three, kind-other}

@@ -10,12 +10,12 @@ use Rattle.lists.proofs.Logic.{cases, decided}
 use Rattle.plan.specs.Plan.{task, kindOf}
 use Rattle.event.proofs.CodeLaws.{two}
 
--- what `a && b` answers, by a
-pub and-on : (a b x : Bool) → a ≡ true → (a && b) ≡ x → b ≡ x
-and-on a b x h k = ap (λ t. t && b) (sym h) ∙ k
+-- what the code answers at `a && b`: r is the first test's answer, q the second's
+pub and-on : {r q a b x : Bool} → r ≡ a → r ≡ true → q ≡ b → (a && b) ≡ x → q ≡ x
+and-on {b = b} e h f k = f ∙ ap (λ t. t && b) (sym (sym e ∙ h)) ∙ k
 
-pub and-off : (a b x : Bool) → a ≡ false → (a && b) ≡ x → a ≡ x
-and-off a b x h k = h ∙ ap (λ t. t && b) (sym h) ∙ k
+pub and-off : {r a x : Bool} (b : Bool) → r ≡ a → r ≡ false → (a && b) ≡ x → r ≡ x
+and-off b e h k = h ∙ ap (λ t. t && b) (sym (sym e ∙ h)) ∙ k
 
 -- one of three neighbours
 pub three : (m n : ℕ) → m ≤ n → n ≤ m + 2 → (n ≡ m) ⊎ ((n ≡ m + 1) ⊎ (n ≡ m + 1 + 1))

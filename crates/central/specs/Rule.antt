@@ -6,10 +6,10 @@ use Prim.Native.Nat.{ℕ}
 use lib.Dec.{eqb}
 use lib.ListN.{length, getD, set}
 use Rattle.plan.specs.Plan.{size}
-use Rattle.event.specs.Event.{Code, start, offer, commit, abort, answered-yes, answered-no, pick, down, Event, codeNumber, codeOf, eventOf}
+use Rattle.event.specs.Event.{Code, start, offer, commit, abort, answered-yes, answered-no, pick, down, Event, codeNumber, eventOf}
 use Rattle.event.specs.Bit.{hasBit, withBit}
 use Rattle.event.specs.Valid.{invalid}
-use Rattle.central.specs.Mark.{idle, markNumber, markOf}
+use Rattle.central.specs.Mark.{markNumber, markOf}
 use Rattle.central.specs.Central.{Answer, none, said-yes, said-no, Central, markAfter, allowed}
 use Rattle.central.specs.declared.Ruling.{Ruling}
 use Rattle.central.specs.declared.Ruling.the-variants.{Allowed, Forbidden, Refused}

@@ -5,11 +5,10 @@ ghost use mathlib.Core.Path.{_≡_};
 ghost use mathlib.Core.Bool.{true, _&&_, not};
 ghost use Prim.Native.Nat.{_<_, _≤_};
 ghost use lib.ListN.{length, getD};
-ghost use Rattle.lists.specs.Seq.{all, any, keep};
+ghost use Rattle.lists.specs.Seq.{all, any};
 ghost use Rattle.plan.specs.Plan.{size, kind, parent, children, childrenBelow};
 ghost use Rattle.plan.specs.Check.{Accepted};
-ghost use Rattle.event.specs.Event.{codeOf, eventOf, applies, start, commit, abort, pick, down};
-ghost use Rattle.central.specs.Mark.{running};
+ghost use Rattle.event.specs.Event.{codeOf, eventOf, applies, start, commit, pick, down};
 ghost use Rattle.central.specs.Central.{marked, started, isYes, isNo, ofBranch, reachedBy, finishesBy, failsBy, allowedBy, allowed};
 ghost use Rattle.central.specs.Rule.{answerOf, stateOf, marksAfter, notesAfter, rightSize, ruled, ruleOf};
 ghost use Rattle.central.specs.Scan.{answerNumber, markIn, pickedAt, besides};
@@ -70,6 +69,7 @@ fn answer(notes: &[u8], v: u8) -> u8
     0
 }
 
+// v is picked.
 fn picked(notes: &[u8], v: u8) -> bool
     ensures { λ r. ⌜ r ≡ pickedAt (now (notes .entry)) v ⌝ }
 {
@@ -158,7 +158,7 @@ fn branch(plan: &[u8], marks: &[u8], notes: &[u8], v: u8, set: u8) -> bool
     }
 }
 
-// v's place among the children of u is reached.
+// v's place among the children of u is reached (E2).
 fn reached(plan: &[u8], marks: &[u8], notes: &[u8], u: u8, v: u8) -> bool
     requires { ⌜ v ≤ size (now plan) ⌝ }
     ensures { λ r. let p = now (plan .entry) in ⌜ r ≡ reachedBy (kind p u) (stateOf (now (marks .entry)) (now (notes .entry))) u (children p u) v ⌝ }
@@ -178,6 +178,7 @@ fn reached(plan: &[u8], marks: &[u8], notes: &[u8], u: u8, v: u8) -> bool
     }
 }
 
+// v has not started, and may (E2).
 fn may_start(plan: &[u8], marks: &[u8], notes: &[u8], v: u8) -> bool
     requires { ⌜ v < size (now plan) ⌝ }
     ensures { λ r. ⌜ r ≡ allowedBy (now (plan .entry)) (stateOf (now (marks .entry)) (now (notes .entry))) start v ⌝ }
@@ -195,14 +196,11 @@ fn may_start(plan: &[u8], marks: &[u8], notes: &[u8], v: u8) -> bool
     reached(plan, marks, notes, u, v)
 }
 
-// v is running, and its children let it finish.
-fn may_finish(plan: &[u8], marks: &[u8], notes: &[u8], v: u8) -> bool
+// v's children let it finish (E4).
+fn finishes(plan: &[u8], marks: &[u8], notes: &[u8], v: u8) -> bool
     requires { ⌜ Accepted (now plan) × (v < size (now plan)) ⌝ }
-    ensures { λ r. let p = now (plan .entry) in let s = stateOf (now (marks .entry)) (now (notes .entry)) in ⌜ r ≡ (marked s running v && finishesBy (kind p v) s v (children p v)) ⌝ }
+    ensures { λ r. let p = now (plan .entry) in ⌜ r ≡ finishesBy (kind p v) (stateOf (now (marks .entry)) (now (notes .entry))) v (children p v) ⌝ }
 {
-    if !marked(marks, v, RUNNING) {
-        return false;
-    }
     match plan::kind(plan, v) {
         2..=3 => every(plan, marks, v, COMMITTED),
         4 => every(plan, marks, v, ENDED) && some(plan, marks, v, COMMITTED),
@@ -213,25 +211,11 @@ fn may_finish(plan: &[u8], marks: &[u8], notes: &[u8], v: u8) -> bool
     }
 }
 
-// An xor's child commits once it is picked, any other node when it finishes.
-fn may_commit(plan: &[u8], marks: &[u8], notes: &[u8], v: u8) -> bool
+// v's children let it fail (E5).
+fn fails(plan: &[u8], marks: &[u8], notes: &[u8], v: u8) -> bool
     requires { ⌜ Accepted (now plan) × (v < size (now plan)) ⌝ }
-    ensures { λ r. ⌜ r ≡ allowedBy (now (plan .entry)) (stateOf (now (marks .entry)) (now (notes .entry))) commit v ⌝ }
+    ensures { λ r. let p = now (plan .entry) in ⌜ r ≡ failsBy (kind p v) (stateOf (now (marks .entry)) (now (notes .entry))) v (children p v) ⌝ }
 {
-    if plan::above(plan, v) == 5 {
-        marked(marks, v, OFFERED) && picked(notes, v)
-    } else {
-        may_finish(plan, marks, notes, v)
-    }
-}
-
-fn may_fail(plan: &[u8], marks: &[u8], notes: &[u8], v: u8) -> bool
-    requires { ⌜ Accepted (now plan) × (v < size (now plan)) ⌝ }
-    ensures { λ r. ⌜ r ≡ allowedBy (now (plan .entry)) (stateOf (now (marks .entry)) (now (notes .entry))) abort v ⌝ }
-{
-    if !marked(marks, v, RUNNING) {
-        return false;
-    }
     match plan::kind(plan, v) {
         2 => some(plan, marks, v, FAILED),
         3 => every(plan, marks, v, ENDED) && some(plan, marks, v, FAILED),
@@ -241,13 +225,26 @@ fn may_fail(plan: &[u8], marks: &[u8], notes: &[u8], v: u8) -> bool
     }
 }
 
-// A started conditional answers once.
+// An xor's child commits once it is picked, any other node when it finishes (E6, E7).
+fn may_commit(plan: &[u8], marks: &[u8], notes: &[u8], v: u8) -> bool
+    requires { ⌜ Accepted (now plan) × (v < size (now plan)) ⌝ }
+    ensures { λ r. ⌜ r ≡ allowedBy (now (plan .entry)) (stateOf (now (marks .entry)) (now (notes .entry))) commit v ⌝ }
+{
+    if plan::above(plan, v) == 5 {
+        marked(marks, v, OFFERED) && picked(notes, v)
+    } else {
+        marked(marks, v, RUNNING) && finishes(plan, marks, notes, v)
+    }
+}
+
+// A started conditional answers once (E3).
 fn may_answer(marks: &[u8], notes: &[u8], v: u8) -> bool
     ensures { λ r. let s = stateOf (now (marks .entry)) (now (notes .entry)) in ⌜ r ≡ (started s v && not (isYes (s .answer v)) && not (isNo (s .answer v))) ⌝ }
 {
     !marked(marks, v, IDLE) && answer(notes, v) == 0
 }
 
+// An offered child is picked if none is yet (E7).
 fn may_pick(plan: &[u8], marks: &[u8], notes: &[u8], v: u8) -> bool
     requires { ⌜ size (now plan) ≤ 160 ⌝ }
     ensures { λ r. ⌜ r ≡ allowedBy (now (plan .entry)) (stateOf (now (marks .entry)) (now (notes .entry))) pick v ⌝ }
@@ -255,6 +252,7 @@ fn may_pick(plan: &[u8], marks: &[u8], notes: &[u8], v: u8) -> bool
     marked(marks, v, OFFERED) && !any_picked(plan, notes, plan::parent(plan, v), 0)
 }
 
+// An offered child is turned down if another is picked (E7).
 fn may_turn_down(plan: &[u8], marks: &[u8], notes: &[u8], v: u8) -> bool
     requires { ⌜ size (now plan) ≤ 160 ⌝ }
     ensures { λ r. ⌜ r ≡ allowedBy (now (plan .entry)) (stateOf (now (marks .entry)) (now (notes .entry))) down v ⌝ }
@@ -262,7 +260,7 @@ fn may_turn_down(plan: &[u8], marks: &[u8], notes: &[u8], v: u8) -> bool
     marked(marks, v, OFFERED) && any_picked(plan, notes, plan::parent(plan, v), v)
 }
 
-// The event applies; the rule allows it.
+// The rule allows an event, which applies.
 fn allowed(plan: &[u8], code: u8, v: u8, marks: &[u8], notes: &[u8]) -> bool
     requires { ⌜ Accepted (now plan) × (v < size (now plan)) ⌝ }
     requires { ⌜ (1 ≤ code) × (code ≤ 8) ⌝ }
@@ -271,16 +269,16 @@ fn allowed(plan: &[u8], code: u8, v: u8, marks: &[u8], notes: &[u8]) -> bool
 {
     match code {
         1 => may_start(plan, marks, notes, v),
-        2 => may_finish(plan, marks, notes, v),
+        2 => marked(marks, v, RUNNING) && finishes(plan, marks, notes, v),
         3 => may_commit(plan, marks, notes, v),
-        4 => may_fail(plan, marks, notes, v),
+        4 => marked(marks, v, RUNNING) && fails(plan, marks, notes, v),
         5..=6 => may_answer(marks, notes, v),
         7 => may_pick(plan, marks, notes, v),
         _ => may_turn_down(plan, marks, notes, v),
     }
 }
 
-// Start, offer, commit, abort and turned down set the mark; yes, no and pick are noted.
+// Start, offer, commit, abort and turned down set the mark; yes, no and pick are noted (E8).
 fn advance(code: u8, v: u8, marks: &mut [u8], notes: &mut [u8])
     requires { ⌜ (1 ≤ code) × (code ≤ 8) ⌝ }
     requires { ⌜ (v < length (now marks)) × (v < length (now notes)) ⌝ }
@@ -302,7 +300,7 @@ fn right_size(plan: &[u8], marks: &[u8], notes: &[u8]) -> bool
     marks.len() == n && notes.len() == n
 }
 
-// The rule on an event: its answer, and marks and notes advanced where the event is allowed.
+// The rule on an event: its answer, and marks and notes advanced where the event is allowed (E10).
 pub fn rule(plan: &[u8], code: u32, node: u32, marks: &mut [u8], notes: &mut [u8]) -> Ruling
     ensures { λ r. ⌜ ruleOf (now (plan .entry)) code node (now (marks .entry)) (now (notes .entry)) ≡ ruled (now (marks .exit)) (now (notes .exit)) r ⌝ }
 {

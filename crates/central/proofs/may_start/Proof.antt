@@ -1,6 +1,5 @@
 -- Assumes nothing.
 use mathlib.Core.Path.{sym, _∙_}
-use native.Mathlib.Omega.{arith}
 use borrow.Author.Tests.{not-true, not-false}
 use Rattle.central.proofs.StartLaws.{start-not, start-root, start-early, start-reached}
 use borrow.Author.Needs.{needs}

@@ -1,5 +1,5 @@
 -- Assumes nothing.
-use mathlib.Core.Path.{sym, _∙_}
+use mathlib.Core.Path.{refl}
 use Rattle.central.proofs.Tests.{and-on, and-off}
 use Rattle.central.proofs.AllowedLaws.{down-later}
 use borrow.Author.Needs.{needs}
@@ -16,10 +16,10 @@ any-picked-requires : tie.Need-any-picked-requires
 any-picked-requires c κs = search needs
 
 returns : tie.Need-returns
-returns c = c .any-picked .ensures ∙ rw (c .before .parent .ensures) (and-on _ _ _ (sym (c .before .before .before .marked .ensures) ∙ c .before .before .if1 .taken) (down-later _ _ _ _))
+returns c = and-on (c .before .before .before .marked .ensures) (c .before .before .if1 .taken) (c .any-picked .ensures) (down-later _ _ _ _ _ (c .before .parent .ensures))
 
 returns-2 : tie.Need-returns-2
-returns-2 c = c .before .marked .ensures ∙ and-off _ _ _ (sym (c .before .marked .ensures) ∙ c .if1 .left) (down-later _ _ _ _)
+returns-2 c = and-off _ (c .before .marked .ensures) (c .if1 .left) (down-later _ _ _ _ _ refl)
 
 pub may-turn-down-spec : {M : Type 1} → statement M
 may-turn-down-spec =
