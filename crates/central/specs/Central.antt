@@ -8,20 +8,25 @@ use Rattle.plan.specs.Plan.{Kind, task, serial, and, or, xor, contingency, cond
 use Rattle.event.specs.Event.{Code, start, offer, commit, abort, answered-yes, answered-no, pick, down, Event, applies}
 use Rattle.central.specs.Mark.{Mark, idle, running, offered, committed, failed, turned-down, isMark}
 
+-- what a conditional has answered
 pub data Answer : Type 0 where
   none said-yes said-no : Answer
 
+-- a state: of each node its mark, its answer, and whether it is picked
 pub record Central : Type 0 where
   pub mark : ℕ → Mark
   pub answer : ℕ → Answer
   pub picked : ℕ → Bool
 
+-- f with x at v
 abbrev pub update {ℓ} : {A : Type ℓ} → (ℕ → A) → ℕ → A → ℕ → A
 update f v x w = cond (eqb v w) x (f w)
 
+-- E1: at the beginning all marks are 0, and there are no answers and no picks
 unfoldable pub fresh : Central
 fresh = record { mark = λ v. idle; answer = λ v. none; picked = λ v. false }
 
+-- E8: an event's new mark of its node; yes, no and pick leave the mark
 unfoldable pub markAfter : Code → Mark → Mark
 markAfter start m = running
 markAfter offer m = offered
@@ -32,6 +37,7 @@ markAfter answered-no m = m
 markAfter pick m = m
 markAfter down m = turned-down
 
+-- E8: yes and no are noted
 unfoldable pub answerAfter : Code → Answer → Answer
 answerAfter start a = a
 answerAfter offer a = a
@@ -42,6 +48,7 @@ answerAfter answered-no a = said-no
 answerAfter pick a = a
 answerAfter down a = a
 
+-- E8: a pick is noted
 unfoldable pub pickedAfter : Code → Bool → Bool
 pickedAfter start k = k
 pickedAfter offer k = k
@@ -52,6 +59,7 @@ pickedAfter answered-no k = k
 pickedAfter pick k = true
 pickedAfter down k = k
 
+-- E8: an event changes nothing but what its node has
 unfoldable pub after : Central → Event → Central
 after s e =
     record {
@@ -74,11 +82,11 @@ isNo said-no = true
 abbrev pub marked : Central → Mark → ℕ → Bool
 marked s m v = isMark m (s .mark v)
 
--- E1: a node is started if its mark isn't 0
+-- E1: a node is started if its mark is not 0
 abbrev pub started : Central → ℕ → Bool
 started s v = not (marked s idle v)
 
--- u is v's parent and cs the children of u
+-- E2: v's place is reached, by the kind of its parent u, which has the children cs
 unfoldable pub reachedBy : Kind → Central → ℕ → List ℕ → ℕ → Bool
 reachedBy task s u cs v = false
 reachedBy serial s u cs v = all (marked s committed) (earlier cs v)
@@ -88,10 +96,11 @@ reachedBy xor s u cs v = true
 reachedBy contingency s u cs v = all (marked s failed) (earlier cs v)
 reachedBy conditional s u cs v = cond (any (λ c. ltb c v) cs) (isNo (s .answer u)) (isYes (s .answer u))
 
+-- E2: the root may start, another node if its parent is started and its place reached
 unfoldable pub mayStart : List ℕ → Central → ℕ → Bool
 mayStart p s v = cond (eqb v 0) true (started s (parent p v) && reachedBy (above p v) s (parent p v) (children p (parent p v)) v)
 
--- the child of the answered branch is as f says
+-- E4 and E5: the child of the answered branch is as f says
 unfoldable pub ofBranch : (ℕ → Bool) → Answer → List ℕ → Bool
 ofBranch f none cs = false
 ofBranch f said-yes [] = false
@@ -100,7 +109,7 @@ ofBranch f said-no [] = false
 ofBranch f said-no (a ∷ []) = false
 ofBranch f said-no (a ∷ b ∷ cs) = f b
 
--- v's children, by kind, let v finish
+-- E4: v's children cs, by its kind, let v finish
 unfoldable pub finishesBy : Kind → Central → ℕ → List ℕ → Bool
 finishesBy task s v cs = true
 finishesBy serial s v cs = all (marked s committed) cs
@@ -111,6 +120,7 @@ finishesBy xor s v cs =
 finishesBy contingency s v cs = any (marked s committed) cs
 finishesBy conditional s v cs = ofBranch (marked s committed) (s .answer v) cs
 
+-- E5: v's children cs, by its kind, let v fail
 unfoldable pub failsBy : Kind → Central → ℕ → List ℕ → Bool
 failsBy task s v cs = true
 failsBy serial s v cs = any (marked s failed) cs
@@ -120,6 +130,8 @@ failsBy xor s v cs = all (marked s failed) cs
 failsBy contingency s v cs = all (marked s failed) cs
 failsBy conditional s v cs = ofBranch (marked s failed) (s .answer v) cs
 
+-- E2 to E7, by code. To finish is to commit, and for an xor's child to offer (E6); it commits once it is picked (E7). No event can happen
+-- to a node twice (E8): its mark, its answer or a pick then stands against it.
 unfoldable pub allowedBy : List ℕ → Central → Code → ℕ → Bool
 allowedBy p s start v = marked s idle v && mayStart p s v
 allowedBy p s offer v = inXor p v && marked s running v && finishesBy (kind p v) s v (children p v)
@@ -131,17 +143,20 @@ allowedBy p s answered-no v = started s v && not (isYes (s .answer v)) && not (i
 allowedBy p s pick v = marked s offered v && not (any (s .picked) (children p (parent p v)))
 allowedBy p s down v = marked s offered v && any (s .picked) (others p v)
 
+-- an event that applies (B2) and is allowed
 unfoldable pub allowed : List ℕ → Central → Event → Bool
 allowed p s e = applies p e && allowedBy p s (e .code) (e .node)
 
--- es, each allowed after those before it, from s
+-- E9: es, each allowed after those before it, from s
 unfoldable pub runFrom : List ℕ → Central → List Event → Bool
 runFrom p s [] = true
 runFrom p s (e ∷ es) = allowed p s e && runFrom p (after s e) es
 
+-- E9: from the beginning
 unfoldable pub isRun : List ℕ → List Event → Bool
 isRun p es = runFrom p fresh es
 
+-- the state that es lead to from s
 unfoldable pub reaches : Central → List Event → Central
 reaches s [] = s
 reaches s (e ∷ es) = reaches (after s e) es

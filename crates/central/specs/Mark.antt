@@ -1,4 +1,4 @@
--- Marks (rule B6). Definitions only.
+-- Marks (rules B6 and E8). Definitions only.
 use mathlib.Core.Bool.{Bool, cond}
 use Prim.Native.Nat.{ℕ}
 use lib.Dec.{eqb}
@@ -6,6 +6,7 @@ use lib.Dec.{eqb}
 pub data Mark : Type 0 where
   idle running offered committed failed turned-down : Mark
 
+-- B6: a mark's number
 unfoldable pub markNumber : Mark → ℕ
 markNumber idle = 0
 markNumber running = 1
@@ -18,7 +19,7 @@ markNumber turned-down = 5
 unfoldable pub isMark : Mark → Mark → Bool
 isMark m n = eqb (markNumber m) (markNumber n)
 
--- the mark of a byte; one above 5 is read as 5
+-- E10: the mark of a byte; one above 5 is read as 5
 unfoldable pub markOf : ℕ → Mark
 markOf b =
     cond (eqb b 0) idle

@@ -9,3 +9,4 @@ pub mod Lent
 pub mod Filling
 pub mod Between
 pub mod Points
+pub mod Search
