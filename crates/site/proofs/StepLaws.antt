@@ -20,7 +20,7 @@ use Rattle.guard.specs.Written.{filled, writeOf}
 use Rattle.guard.specs.declared.Written.{Written}
 use Rattle.guard.specs.declared.Written.the-variants.{Done, Refused as Unwritten}
 use Rattle.guard.proofs.WriteLaws.{write-done, write-refused}
-use Rattle.site.specs.Row.{heardIn, heard, hear, bytesHold}
+use Rattle.site.specs.Row.{heard, hear, bytesHold}
 use Rattle.site.specs.declared.Refusal.the-variants.{Invalid, Barred, Unmet}
 use Rattle.site.specs.declared.Verdict.the-variants.{Passed, Refused}
 use Rattle.site.specs.Verdict.{refusalNumber, refusalSite, verdictNumber, verdictSite}
@@ -129,36 +129,39 @@ module _ (p : List ℕ) (code node : ℕ) (row : List ℕ) where
   unfolding decide
   decide-by P x y z = three P x y z (barred p (heard row) (eventOf code node)) (holds (heard row) (guard p (eventOf code node)))
 
+  -- the same of a step, with an invalid call's answer besides. P also has whether the call is valid
+  step-by : (P : Bool → Bool → Bool → Stepped → Type 0) → ((n : ℕ) → (n ≡ 0 → ⊥) → (b g : Bool) → P false b g (stepped row (Refused (Invalid n)))) →
+      ((g : Bool) → P true true g decision-10) → P true false false decision-11 → P true false true decision-0 →
+      P (eqb (stepInvalid p code node row) 0) (barred p (heard row) (eventOf code node)) (holds (heard row) (guard p (eventOf code node))) (stepOf p code node row)
+  step-by P w x y z = cases (decided (eqb (stepInvalid p code node row) 0))
+      (λ e. rw (e, step-valid (eqb-true _ 0 e)) (decide-by (P true) x y z))
+      (λ e. let h = eqb-false (stepInvalid p code node row) 0 e in rw (e, step-invalid (stepInvalid p code node row) refl h) (w (stepInvalid p code node row) h _ _))
+
   -- which events pass
-  pub decide-passes : eqb (verdictNumber (decide p code node row .verdict)) 0 ≡ (not (barred p (heard row) (eventOf code node)) && holds (heard row) (guard p (eventOf code node)))
+  pub step-passes : eqb (verdictNumber (stepOf p code node row .verdict)) 0
+      ≡ (eqb (stepInvalid p code node row) 0 && (not (barred p (heard row) (eventOf code node)) && holds (heard row) (guard p (eventOf code node))))
   unfolding verdictNumber refusalNumber
-  decide-passes = decide-by (λ b g s. eqb (verdictNumber (s .verdict)) 0 ≡ (not b && g)) (λ g. refl) refl refl
+  step-passes = step-by (λ v b g s. eqb (verdictNumber (s .verdict)) 0 ≡ (v && (not b && g))) (λ n h b g. ne-eqb n 0 h) (λ g. refl) refl refl
+
+  -- an event that passes is set, and a refused step leaves the row
+  pub step-leaves : stepOf p code node row .row ≡ cond (eqb (verdictNumber (stepOf p code node row .verdict)) 0) (hear row code node) row
+  unfolding verdictNumber refusalNumber
+  step-leaves = step-by (λ v b g s. s .row ≡ cond (eqb (verdictNumber (s .verdict)) 0) (hear row code node) row) (λ n h b g. rw (ne-eqb n 0 h)) (λ g. refl) refl refl
+
+  pub step-length : length (stepOf p code node row .row) ≡ length row
+  step-length = rw step-leaves (go (eqb (verdictNumber (stepOf p code node row .verdict)) 0))
+    where
+      go : (b : Bool) → length (cond b (hear row code node) row) ≡ length row
+      go true = hear-length row code node
+      go false = refl
 
   -- the event's site goes with every decision
   pub decide-site : verdictSite (decide p code node row .verdict) ≡ siteAt p code node
   unfolding verdictSite refusalSite
   decide-site = decide-by (λ b g s. verdictSite (s .verdict) ≡ siteAt p code node) (λ g. refl) refl refl
 
-  -- ROWS: an event that passes is set, and a refused step leaves the row
-  step-row : stepOf p code node row .row ≡ cond (eqb (verdictNumber (stepOf p code node row .verdict)) 0) (hear row code node) row
-  unfolding verdictNumber refusalNumber
-  step-row = cases (decided (eqb (stepInvalid p code node row) 0))
-      (λ e. rw (step-valid (eqb-true _ 0 e)) (decide-by (λ b g s. s .row ≡ cond (eqb (verdictNumber (s .verdict)) 0) (hear row code node) row) (λ g. refl) refl refl))
-      (λ e. rw (step-invalid (stepInvalid p code node row) refl (eqb-false _ 0 e), e))
-
-  pub step-passed : verdictNumber (stepOf p code node row .verdict) ≡ 0 → stepOf p code node row .row ≡ hear row code node
-  step-passed h = step-row ∙ rw h
-
-  pub step-refused : (verdictNumber (stepOf p code node row .verdict) ≡ 0 → ⊥) → stepOf p code node row .row ≡ row
-  step-refused h = step-row ∙ rw (ne-eqb (verdictNumber (stepOf p code node row .verdict)) 0 h)
-
-  pub step-length : length (stepOf p code node row .row) ≡ length row
-  step-length = cases (decided (eqb (verdictNumber (stepOf p code node row .verdict)) 0))
-      (λ e. rw (step-passed (eqb-true _ 0 e)) (hear-length row code node))
-      (λ e. rw (step-refused (eqb-false _ 0 e)))
-
   -- a repeated message changes nothing
-  pub hear-repeat : heardIn row code node ≡ true → hearOf p code node row .row ≡ row
+  pub hear-repeat : heard row (eventOf code node) ≡ true → hearOf p code node row .row ≡ row
   hear-repeat h = cases (decided (eqb (stepInvalid p code node row) 0))
       (λ e. rw (hear-valid (eqb-true _ 0 e)) (hear-again row code node h))
       (λ e. rw (hear-invalid (stepInvalid p code node row) refl (eqb-false _ 0 e)))
