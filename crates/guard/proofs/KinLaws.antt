@@ -1,17 +1,20 @@
 -- Laws of the nodes that a guard speaks of: the first, the last, the one before, and how they are gathered. Assumes nothing.
 use mathlib.Core.Path.{_≡_, refl, sym, ap, _∙_}
-use mathlib.Core.Bool.{Bool, true, false, _&&_, cond, not}
+use mathlib.Core.Bool.{Bool, true, false, _&&_, _||_, cond, not, and-true, or-true}
 use mathlib.Core.List.{List, [], _∷_, _++_}
+use mathlib.Core.Logic.{⊎-elim}
 use Prim.Native.Nat.{ℕ, zero, suc, pred, _+_, _-_, _<_, _≤_}
+use native.Mathlib.Nat.{eq-or-lt-of-le}
 use native.Mathlib.Numerals.{add-one}
 use native.Mathlib.Omega.{arith}
-use borrow.Author.Tests.{eq-eqb, ne-eqb}
+use borrow.Author.Tests.{eq-eqb, ne-eqb, eqb-true, eqb-false}
 use lib.Dec.{eqb}
 use lib.ListN.{length, length-set, set, drop, getD}
 use lib.Seq.{sets}
 use Rattle.lists.specs.Seq.{keep, upFrom, lastOr, headOr}
-use Rattle.lists.proofs.Logic.{cases, decided}
-use Rattle.lists.proofs.Keep.{keep-yes, keep-no, keep-out, keep-keep}
+use Rattle.lists.proofs.Logic.{cases, decided, either, clash}
+use Rattle.lists.proofs.Members.{up-in}
+use Rattle.lists.proofs.Keep.{keep-yes, keep-no, keep-out, keep-same, keep-keep, keep-short}
 use Rattle.plan.specs.Plan.{kindOf, size, kindByte, kind, parent, childrenBelow, children, others, above, aboveByte, inXor}
 use Rattle.plan.specs.Check.{Accepted}
 use Rattle.plan.proofs.KindLaws.{above-byte}
@@ -22,7 +25,7 @@ use Rattle.guard.specs.Bytes.{encode}
 use Rattle.guard.specs.Put.{Put}
 use Rattle.guard.specs.Row.{isKin, kin, rowBy}
 use Rattle.guard.proofs.PutLaws.{Left, left-all, left-same, left-none, drop-turn, drop-out}
-use Rattle.guard.proofs.Short.{few-children, few-others}
+use Rattle.guard.proofs.Short.{few-children}
 
 pub last-at : (d : ℕ) (cs : List ℕ) (n : ℕ) → length cs ≡ suc n → lastOr d cs ≡ getD cs n 0
 unfolding lastOr
@@ -82,65 +85,103 @@ module _ (f : ℕ → Bool) {whole b₀ : List ℕ} {w₀ : ℕ} {b : List ℕ} 
   pub all-kept : n ≤ c → Put whole b₀ w₀ b w
   all-kept l = left-none (left-same (keep-out f c n l) h)
 
-pub kin-begin : (p : List ℕ) (code : Code) (v : ℕ) {n : ℕ} (b : List ℕ) (w : ℕ) → n ≡ size p → Left (keep (isKin p code v) (upFrom 1 (n - 1))) (kin p code v) b w b w
+pub kin-begin : (p : List ℕ) (u skip : ℕ) {n : ℕ} (b : List ℕ) (w : ℕ) → n ≡ size p → Left (keep (isKin p u skip) (upFrom 1 (n - 1))) (kin p u skip) b w b w
 unfolding kin
-kin-begin p code v b w e = let q : size p - 1 ≡ pred (size p) = omega arith in rw (e, q) (left-all _ b w)
+kin-begin p u skip b w e = let q : size p - 1 ≡ pred (size p) = omega arith in rw (e, q) (left-all _ b w)
 
--- whom a guard speaks of, by the code's number; w is the parent of c, u that of v
-module _ (p : List ℕ) (v c : ℕ) {w : ℕ} (is : w ≡ parent p c) where
-  pub kin-own : (code : ℕ) → 2 ≤ code → code ≤ 7 → eqb w v ≡ isKin p (codeOf code) v c
-  unfolding codeOf isKin
-  kin-own zero a b = absurd (omega arith)
-  kin-own (suc zero) a b = absurd (omega arith)
-  kin-own (suc (suc zero)) a b = rw is
-  kin-own (suc (suc (suc zero))) a b = rw is
-  kin-own (suc (suc (suc (suc zero)))) a b = rw is
-  kin-own (suc (suc (suc (suc (suc zero))))) a b = rw is
-  kin-own (suc (suc (suc (suc (suc (suc zero)))))) a b = rw is
-  kin-own (suc (suc (suc (suc (suc (suc (suc zero))))))) a b = rw is
-  kin-own (suc (suc (suc (suc (suc (suc (suc (suc code)))))))) a b = absurd (omega arith)
+pub kin-test : (p : List ℕ) (u skip c : ℕ) {w : ℕ} {b : Bool} → w ≡ parent p c → (eqb w u && not (eqb c skip)) ≡ b → isKin p u skip c ≡ b
+unfolding isKin
+kin-test p u skip c is h = rw is at h
 
-  module _ (code : ℕ) {u : ℕ} (above : u ≡ parent p v) where
-    pub kin-start : code ≡ 1 → eqb w u ≡ isKin p (codeOf code) v c
-    unfolding codeOf isKin
-    kin-start e = rw (e, is, above)
+kin-keep : (p : List ℕ) (u skip : ℕ) → kin p u skip ≡ keep (λ c. not (eqb c skip)) (children p u)
+unfolding kin isKin children childrenBelow
+kin-keep p u skip = sym (keep-keep (λ c. eqb (parent p c) u) (λ c. not (eqb c skip)) (upFrom 1 (pred (size p))))
 
-    pub kin-sibling : (1 ≤ code → code ≤ 7 → ⊥) → w ≡ u → not (eqb c v) ≡ isKin p (codeOf code) v c
-    unfolding isKin
-    kin-sibling h e = rw (code-down code h, eq-eqb (parent p c) (parent p v) (sym is ∙ e ∙ above))
+kin-others : (p : List ℕ) (v : ℕ) → kin p (parent p v) v ≡ others p v
+unfolding others
+kin-others p v = kin-keep p (parent p v) v
 
-    pub kin-none : (1 ≤ code → code ≤ 7 → ⊥) → (w ≡ u → ⊥) → eqb w u ≡ isKin p (codeOf code) v c
-    unfolding isKin
-    kin-none h e = rw (code-down code h, is, above, ne-eqb (parent p c) (parent p v) (λ q. e (is ∙ q ∙ sym above)))
+-- the root is nobody's child
+kin-children : (p : List ℕ) (u : ℕ) → kin p u 0 ≡ children p u
+unfolding kin isKin children childrenBelow
+kin-children p u = keep-same _ _ (upFrom 1 (pred (size p))) (λ c i.
+    let b = up-in 1 (pred (size p)) i in
+    rw (ne-eqb c 0 (λ e. omega arith)) (and-true (eqb (parent p c) u)))
 
--- the guard is its row, of those kin
-kin-others : (p : List ℕ) (v : ℕ) → kin p down v ≡ others p v
-unfolding kin isKin others children childrenBelow
-kin-others p v = sym (keep-keep (λ c. eqb (parent p c) (parent p v)) (λ c. not (eqb c v)) (upFrom 1 (pred (size p))))
+pub kin-few : (p : List ℕ) → Accepted p → (u skip : ℕ) → length (kin p u skip) ≤ 32
+kin-few p ok u skip = omega (arith, ap length (kin-keep p u skip), keep-short (λ c. not (eqb c skip)) (children p u), few-children p ok u)
 
-guard-row : (p : List ℕ) (code : Code) (v : ℕ) → guardBy p code v ≡ rowBy code (kind p v) (above p v) (parent p v) v (kin p code v)
-unfolding guardBy rowBy kin isKin children childrenBelow finishing aborting inXor
-guard-row p start v = refl
-guard-row p offer v = refl
-guard-row p commit v = refl
-guard-row p abort v = refl
+-- whose children the guard of an event of v speaks of, and whom of them it leaves out
+unfoldable pub whose : List ℕ → Code → ℕ → ℕ
+whose p start v = parent p v
+whose p offer v = v
+whose p commit v = v
+whose p abort v = v
+whose p answered-yes v = v
+whose p answered-no v = v
+whose p pick v = v
+whose p down v = parent p v
+
+unfoldable pub leftOut : Code → ℕ → ℕ
+leftOut start v = 0
+leftOut offer v = 0
+leftOut commit v = 0
+leftOut abort v = 0
+leftOut answered-yes v = 0
+leftOut answered-no v = 0
+leftOut pick v = 0
+leftOut down v = v
+
+-- by the code's number
+middle : (P : Code → Type 0) → P offer → P commit → P abort → P answered-yes → P answered-no → P pick → (code : ℕ) → 2 ≤ code → code ≤ 7 → P (codeOf code)
+unfolding codeOf
+middle P o c a y n k zero l h = absurd (omega arith)
+middle P o c a y n k (suc zero) l h = absurd (omega arith)
+middle P o c a y n k (suc (suc zero)) l h = o
+middle P o c a y n k (suc (suc (suc zero))) l h = c
+middle P o c a y n k (suc (suc (suc (suc zero)))) l h = a
+middle P o c a y n k (suc (suc (suc (suc (suc zero))))) l h = y
+middle P o c a y n k (suc (suc (suc (suc (suc (suc zero)))))) l h = n
+middle P o c a y n k (suc (suc (suc (suc (suc (suc (suc zero))))))) l h = k
+middle P o c a y n k (suc (suc (suc (suc (suc (suc (suc (suc code)))))))) l h = absurd (omega arith)
+
+module _ (p : List ℕ) (code v : ℕ) (low : 1 ≤ code) (high : code ≤ 8) where
+  pub whose-parent : {u : ℕ} → u ≡ parent p v → (eqb code 1 || eqb code 8) ≡ true → u ≡ whose p (codeOf code) v
+  unfolding codeOf whose
+  whose-parent is h = cases ((either (eqb code 1) (eqb code 8)) .0 h) (λ e. rw (eqb-true code 1 e) is) (λ e. rw (eqb-true code 8 e) is)
+
+  pub whose-own : (eqb code 1 || eqb code 8) ≡ false → v ≡ whose p (codeOf code) v
+  unfolding whose
+  whose-own h =
+      let no : (eqb code 1 || eqb code 8) ≡ true → ⊥ = λ e. clash (eqb code 1 || eqb code 8) e h in
+      let n1 : code ≡ 1 → ⊥ = λ e. no (rw (eq-eqb code 1 e)) in
+      let n8 : code ≡ 8 → ⊥ = λ e. no (rw (eq-eqb code 8 e, or-true)) in
+      middle (λ c. v ≡ whose p c v) refl refl refl refl refl refl code (omega arith) (omega arith)
+
+module _ (code v : ℕ) (low : 1 ≤ code) (high : code ≤ 8) where
+  pub self-out : code ≡ 8 → v ≡ leftOut (codeOf code) v
+  unfolding codeOf leftOut
+  self-out e = rw e
+
+  pub none-out : (code ≡ 8 → ⊥) → 0 ≡ leftOut (codeOf code) v
+  unfolding codeOf leftOut
+  none-out h = cases (decided (eqb code 1)) (λ e. rw (eqb-true code 1 e))
+      (λ e. let n = eqb-false code 1 e in middle (λ c. 0 ≡ leftOut c v) refl refl refl refl refl refl code (omega arith) (omega arith))
+
+-- the guard is its row
+guard-row : (p : List ℕ) (code : Code) (v : ℕ) → guardBy p code v ≡ rowBy code (kind p v) (above p v) (parent p v) v (kin p (whose p code v) (leftOut code v))
+unfolding guardBy rowBy finishing aborting inXor whose leftOut
+guard-row p start v = rw (kin-children p (parent p v))
+guard-row p offer v = rw (kin-children p v)
+guard-row p commit v = rw (kin-children p v)
+guard-row p abort v = rw (kin-children p v)
 guard-row p answered-yes v = refl
 guard-row p answered-no v = refl
 guard-row p pick v = refl
-guard-row p down v = ap (λ cs. one offer v ++ anyOf pick cs) (sym (kin-others p v))
+guard-row p down v = rw (kin-others p v)
 
-pub guard-bytes : (p : List ℕ) (code v : ℕ) {k a u : ℕ} {cs : List ℕ} → k ≡ kindByte p v → a ≡ aboveByte p v → u ≡ parent p v → cs ≡ kin p (codeOf code) v
+pub guard-bytes : (p : List ℕ) (code v : ℕ) {k a u w skip : ℕ} {cs : List ℕ} → k ≡ kindByte p v → a ≡ aboveByte p v → u ≡ parent p v
+    → w ≡ whose p (codeOf code) v → skip ≡ leftOut (codeOf code) v → cs ≡ kin p w skip
     → encode (guard p (eventOf code v)) ≡ encode (rowBy (codeOf code) (kindOf k) (kindOf a) u v cs)
 unfolding guard kind
-guard-bytes p code v ek ea eu ec = rw (ek, ea, eu, ec, ← above-byte p v) (ap encode (guard-row p (codeOf code) v))
-
-pub kin-few : (p : List ℕ) → Accepted p → (code : Code) (v : ℕ) → length (kin p code v) ≤ 32
-unfolding kin isKin children childrenBelow
-kin-few p ok start v = few-children p ok (parent p v)
-kin-few p ok offer v = few-children p ok v
-kin-few p ok commit v = few-children p ok v
-kin-few p ok abort v = few-children p ok v
-kin-few p ok answered-yes v = few-children p ok v
-kin-few p ok answered-no v = few-children p ok v
-kin-few p ok pick v = few-children p ok v
-kin-few p ok down v = rw (kin-others p v) (few-others p ok v)
+guard-bytes p code v ek ea eu ew es ec = rw (ec, ew, es, ek, ea, eu, ← above-byte p v) (ap encode (guard-row p (codeOf code) v))

@@ -22,7 +22,6 @@ use Rattle.guard.specs.Put.{oneBytes, eachBytes, eachAnyBytes}
 use Rattle.guard.specs.Row.{isKin, kin, rowBy}
 use Rattle.guard.proofs.Shapes.{encode-one, encode-each, encode-each-any}
 use Rattle.guard.proofs.KinLaws.{first-before}
-use Rattle.guard.proofs.Short.{few-children, few-others}
 
 -- no number of a block
 kind-none : (k : ℕ) → (2 ≤ k → k ≤ 7 → ⊥) → kindOf k ≡ task
@@ -84,27 +83,39 @@ module _ (k v : ℕ) (cs : List ℕ) where
   unfolding abortBy codeNumber
   abort-task h = rw (kind-none k h) (encode-one start v)
 
--- start, by the parent's kind; d is the one before v, or v itself
-first-or : (cs : List ℕ) (v : ℕ) (k : Code) (x : ℕ) (j : Code) (y : ℕ)
-    → encode (cond (isFirst cs v) (one k x) (one j y)) ≡ cond (eqb (beforeIn v cs v) v) (oneBytes (codeNumber k) x) (oneBytes (codeNumber j) y)
-first-or cs v k x j y = rw (first-before cs v) (go (eqb (beforeIn v cs v) v))
-  where
-    go : (b : Bool) → encode (cond b (one k x) (one j y)) ≡ cond b (oneBytes (codeNumber k) x) (oneBytes (codeNumber j) y)
-    go true = encode-one k x
-    go false = encode-one j y
-
+-- start, by the parent's kind; d is the one before v, or v itself where it is the first
 module _ (k u : ℕ) (cs : List ℕ) (v : ℕ) {d : ℕ} (is : d ≡ beforeIn v cs v) where
-  pub start-serial : k ≡ 2 → encode (startBy (kindOf k) u cs v) ≡ cond (eqb d v) (oneBytes 1 u) (oneBytes 3 d)
-  unfolding kindOf startBy codeNumber
-  start-serial e = rw (e, is) (first-or cs v start u commit (beforeIn v cs v))
+  module _ (first : d ≡ v) where
+    yes : isFirst cs v ≡ true
+    yes = first-before cs v ∙ eq-eqb (beforeIn v cs v) v (sym is ∙ first)
 
-  pub start-contingency : k ≡ 6 → encode (startBy (kindOf k) u cs v) ≡ cond (eqb d v) (oneBytes 1 u) (oneBytes 4 d)
-  unfolding kindOf startBy codeNumber
-  start-contingency e = rw (e, is) (first-or cs v start u abort (beforeIn v cs v))
+    pub first-serial : k ≡ 2 → encode (startBy (kindOf k) u cs v) ≡ oneBytes 1 u
+    unfolding kindOf startBy codeNumber
+    first-serial e = rw (e, yes) (encode-one start u)
 
-  pub start-conditional : k ≡ 7 → encode (startBy (kindOf k) u cs v) ≡ cond (eqb d v) (oneBytes 5 u) (oneBytes 6 u)
-  unfolding kindOf startBy codeNumber
-  start-conditional e = rw (e, is) (first-or cs v answered-yes u answered-no u)
+    pub first-contingency : k ≡ 6 → encode (startBy (kindOf k) u cs v) ≡ oneBytes 1 u
+    unfolding kindOf startBy codeNumber
+    first-contingency e = rw (e, yes) (encode-one start u)
+
+    pub first-conditional : k ≡ 7 → encode (startBy (kindOf k) u cs v) ≡ oneBytes 5 u
+    unfolding kindOf startBy codeNumber
+    first-conditional e = rw (e, yes) (encode-one answered-yes u)
+
+  module _ (later : d ≡ v → ⊥) where
+    no : isFirst cs v ≡ false
+    no = first-before cs v ∙ ne-eqb (beforeIn v cs v) v (λ e. later (is ∙ e))
+
+    pub later-serial : k ≡ 2 → encode (startBy (kindOf k) u cs v) ≡ oneBytes 3 d
+    unfolding kindOf startBy codeNumber
+    later-serial e = rw (e, no, is) (encode-one commit (beforeIn v cs v))
+
+    pub later-contingency : k ≡ 6 → encode (startBy (kindOf k) u cs v) ≡ oneBytes 4 d
+    unfolding kindOf startBy codeNumber
+    later-contingency e = rw (e, no, is) (encode-one abort (beforeIn v cs v))
+
+    pub later-conditional : k ≡ 7 → encode (startBy (kindOf k) u cs v) ≡ oneBytes 6 u
+    unfolding kindOf startBy codeNumber
+    later-conditional e = rw (e, no) (encode-one answered-no u)
 
 module _ (k u : ℕ) (cs : List ℕ) (v : ℕ) where
   pub start-block : 3 ≤ k → k ≤ 5 → encode (startBy (kindOf k) u cs v) ≡ oneBytes 1 u

@@ -78,7 +78,7 @@ module _ (v : ℕ) (cs : List ℕ) (few : length cs ≤ 32) where
   abort-fits conditional = any-fits _
 
 module _ (p : List ℕ) (ok : Accepted p) where
-  pub few-others : (v : ℕ) → length (others p v) ≤ 32
+  few-others : (v : ℕ) → length (others p v) ≤ 32
   unfolding others
   few-others v = omega (arith, keep-short (λ c. not (eqb c v)) (children p (parent p v)), few-children p ok (parent p v))
 

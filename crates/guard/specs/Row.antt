@@ -8,21 +8,14 @@ use Rattle.plan.specs.Plan.{Kind, xor, isKind, size, parent}
 use Rattle.event.specs.Event.{Code, start, offer, commit, abort, answered-yes, answered-no, pick, down}
 use Rattle.guard.specs.Guard.{Guard, one, anyOf, startBy, finishBy, abortBy}
 
--- c is one of those whom the guard of an event of v speaks of: for a start its parent's children, for a turned down its siblings, else its children
-unfoldable pub isKin : List ℕ → Code → ℕ → ℕ → Bool
-isKin p start v c = eqb (parent p c) (parent p v)
-isKin p offer v c = eqb (parent p c) v
-isKin p commit v c = eqb (parent p c) v
-isKin p abort v c = eqb (parent p c) v
-isKin p answered-yes v c = eqb (parent p c) v
-isKin p answered-no v c = eqb (parent p c) v
-isKin p pick v c = eqb (parent p c) v
-isKin p down v c = eqb (parent p c) (parent p v) && not (eqb c v)
+-- the children of u but one; the root is nobody's child, so 0 leaves none out
+unfoldable pub isKin : List ℕ → ℕ → ℕ → ℕ → Bool
+isKin p u skip c = eqb (parent p c) u && not (eqb c skip)
 
-unfoldable pub kin : List ℕ → Code → ℕ → List ℕ
-kin p code v = keep (isKin p code v) (upFrom 1 (pred (size p)))
+unfoldable pub kin : List ℕ → ℕ → ℕ → List ℕ
+kin p u skip = keep (isKin p u skip) (upFrom 1 (pred (size p)))
 
--- the guard by the kind of v, the kind of its parent u, and whom it speaks of
+-- the guard by the kind of v, the kind of its parent u, and cs: for a start the children of u, for a turned down the siblings, else the children
 unfoldable pub rowBy : Code → Kind → Kind → ℕ → ℕ → List ℕ → Guard
 rowBy start k above u v cs = startBy above u cs v
 rowBy offer k above u v cs = finishBy k v cs

@@ -9,30 +9,19 @@ ghost use Rattle.event.specs.Event.{codeOf, eventOf};
 ghost use Rattle.guard.specs.Guard.{beforeIn, startBy, finishBy, abortBy, guard};
 ghost use Rattle.guard.specs.Bytes.{encode};
 ghost use Rattle.guard.specs.Put.{Put, Room};
-ghost use Rattle.guard.specs.Row.{isKin, kin, rowBy};
+ghost use Rattle.guard.specs.Row.{kin, rowBy};
 
-fn is_kin(plan: &[u8], code: u8, v: u8, c: u8) -> bool
-    ensures { λ r. ⌜ r ≡ isKin (now (plan .entry)) (codeOf code) v c ⌝ }
-{
-    let u = plan::parent(plan, c);
-    match code {
-        1 => u == plan::parent(plan, v),
-        2..=7 => u == v,
-        _ => u == plan::parent(plan, v) && c != v,
-    }
-}
-
-// Those whom the guard speaks of, at the front of cs, and how many they are.
-fn kin(plan: &[u8], code: u8, v: u8, cs: &mut [u8]) -> usize
+// The children of u but `skip`, at the front of cs, and how many they are. The root is nobody's child, so 0 leaves none out.
+fn kin(plan: &[u8], u: u8, skip: u8, cs: &mut [u8]) -> usize
     requires { ⌜ size (now plan) ≤ 160 ⌝ }
-    requires { ⌜ length (kin (now plan) (codeOf code) v) ≤ length (now cs) ⌝ }
-    ensures { λ r. ⌜ Put (kin (now (plan .entry)) (codeOf code) v) (now (cs .entry)) 0 (now (cs .exit)) r ⌝ }
+    requires { ⌜ length (kin (now plan) u skip) ≤ length (now cs) ⌝ }
+    ensures { λ r. ⌜ Put (kin (now (plan .entry)) u skip) (now (cs .entry)) 0 (now (cs .exit)) r ⌝ }
 {
     let n = plan::node_count(plan);
     let mut w = 0;
     let mut c = 1;
     while c < n {
-        if is_kin(plan, code, v, c as u8) {
+        if (plan::parent(plan, c as u8) == u) & (c as u8 != skip) {
             cs[w] = c as u8;
             w += 1;
         }
@@ -72,10 +61,22 @@ fn start(above: u8, u: u8, v: u8, cs: &[u8], buf: &mut [u8]) -> usize
 {
     let b = before(cs, v);
     match above {
-        2 => crate::put::one_of(b == v, 1, u, 3, b, buf),
+        2 => if b == v {
+            crate::put::one(1, u, buf)
+        } else {
+            crate::put::one(3, b, buf)
+        },
         3..=5 => crate::put::one(1, u, buf),
-        6 => crate::put::one_of(b == v, 1, u, 4, b, buf),
-        7 => crate::put::one_of(b == v, 5, u, 6, u, buf),
+        6 => if b == v {
+            crate::put::one(1, u, buf)
+        } else {
+            crate::put::one(4, b, buf)
+        },
+        7 => if b == v {
+            crate::put::one(5, u, buf)
+        } else {
+            crate::put::one(6, u, buf)
+        },
         _ => crate::put::each(&[], &[], 0, buf),
     }
 }
@@ -129,17 +130,20 @@ fn row(code: u8, k: u8, above: u8, u: u8, v: u8, cs: &[u8], buf: &mut [u8]) -> u
 }
 
 pub(crate) fn fill(plan: &[u8], code: u8, v: u8, buf: &mut [u8]) -> usize
-    requires { ⌜ Accepted (now plan) ⌝ }
+    requires { ⌜ Accepted (now plan) × (1 ≤ code) × (code ≤ 8) ⌝ }
     requires { ⌜ 290 ≤ length (now buf) ⌝ }
     ensures { λ r. ⌜ Put (encode (guard (now (plan .entry)) (eventOf code v))) (now (buf .entry)) 0 (now (buf .exit)) r ⌝ }
 {
+    let u = plan::parent(plan, v);
+    let whose = if (code == 1) | (code == 8) { u } else { v };
+    let skip = if code == 8 { v } else { 0 };
     let mut cs = [0u8; 32];
-    let n = kin(plan, code, v, &mut cs);
+    let n = kin(plan, whose, skip, &mut cs);
     row(
         code,
         plan::kind(plan, v),
         plan::above(plan, v),
-        plan::parent(plan, v),
+        u,
         v,
         &cs[..n],
         buf,

@@ -30,7 +30,7 @@ module _ (c : tie.Else1) where
   short = guard-short _ (ok .plan) _
 
 validate-requires : tie.Need-validate-requires
-validate-requires c κs = search needs
+validate-requires c κs = tt
 
 returns : tie.Need-returns
 returns c = write-invalid _ _ _ _ (λ e. c .if1 .taken (c .before .validate .ensures ∙ e)) ∙ ap (λ k. filled (c .before .before .before .before .args .buf .now) (Refused k)) (sym (c .before .validate .ensures))
@@ -42,10 +42,10 @@ cast-fill-2 : tie.Need-cast-fill-2
 cast-fill-2 c = let v = ok c in omega (arith, v .plan .few)
 
 slice-aggregate-fill : tie.Need-slice-aggregate-fill
-slice-aggregate-fill c = search needs
+slice-aggregate-fill c = refl
 
 fill-requires : tie.Need-fill-requires
-fill-requires c κs = (ok (c .before) .plan, search needs)
+fill-requires c κs = let v = ok (c .before) in ((v .plan, v .low, v .high), omega arith)
 
 returns-2 : tie.Need-returns-2
 returns-2 c = write-valid _ _ _ _ (zero (c .before .before .before .before)) ∙ fitted-not _ _ (omega (arith, c .before .before .fill .ensures .place, c .if2 .taken))

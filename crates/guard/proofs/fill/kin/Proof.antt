@@ -1,23 +1,22 @@
 -- The loop's invariant: the kin from c on give, from w on, what all of them give from the front. Assumes nothing.
-use mathlib.Core.Path.{_≡_, sym, _∙_}
+use mathlib.Core.Path.{_≡_}
 use mathlib.Core.Logic.{⊎-elim}
 use Prim.Native.Nat.{_-_, _+_, _≤_}
 use native.Mathlib.Nat.{zero-add}
 use native.Mathlib.Omega.{arith}
 use Rattle.lists.specs.Seq.{keep, upFrom}
-use Rattle.event.specs.Event.{codeOf}
 use Rattle.guard.specs.Row.{isKin, kin}
 use Rattle.guard.proofs.PutLaws.{Left}
-use Rattle.guard.proofs.KinLaws.{kin-begin, kept, skipped, kept-room, all-kept}
+use Rattle.guard.proofs.KinLaws.{kin-begin, kin-test, kept, skipped, kept-room, all-kept}
 use borrow.Author.Needs.{needs}
 use Rattle.guard.proofs.fill.kin.Statement.{statement}
 use Rattle.guard.proofs.fill.kin.Tie as tie
 
 abbrev Inv-loop : tie.InvT-loop
-Inv-loop plan code v cs₀ n w₀ c₀ cs w c = (w ≤ c) × Left (keep (isKin plan (codeOf code) v) (upFrom c (n - c))) (kin plan (codeOf code) v) cs₀ w₀ cs w
+Inv-loop plan u skip cs₀ n w₀ c₀ cs w c = (w ≤ c) × Left (keep (isKin plan u skip) (upFrom c (n - c))) (kin plan u skip) cs₀ w₀ cs w
 
 abbrev μ-loop : tie.MeasureT-loop
-μ-loop plan code v cs₀ n w₀ c₀ cs w c = n - c
+μ-loop plan u skip cs₀ n w₀ c₀ cs w c = n - c
 
 node-count-requires : tie.Need-node-count-requires Inv-loop μ-loop
 node-count-requires c κs = search needs
@@ -25,17 +24,20 @@ node-count-requires c κs = search needs
 loop-holds : tie.Need-loop-holds Inv-loop μ-loop
 loop-holds c = (search needs, kin-begin _ _ _ _ _ (c .node-count .ensures))
 
-cast-is-kin : tie.Need-cast-is-kin Inv-loop μ-loop
-cast-is-kin c = omega (arith, c .before .before .node-count .ensures)
+cast-parent : tie.Need-cast-parent Inv-loop μ-loop
+cast-parent c = omega (arith, c .before .before .node-count .ensures)
 
-is-kin-requires : tie.Need-is-kin-requires Inv-loop μ-loop
-is-kin-requires c κs = search needs
+parent-requires : tie.Need-parent-requires Inv-loop μ-loop
+parent-requires c κs = search needs
+
+cast-if1 : tie.Need-cast-if1 Inv-loop μ-loop
+cast-if1 c = omega (arith, c .before .before .before .node-count .ensures)
 
 cast-cs : tie.Need-cast-cs Inv-loop μ-loop
 cast-cs c = omega (arith, c .before .before .before .before .node-count .ensures)
 
 slice-write-cs : tie.Need-slice-write-cs Inv-loop μ-loop
-slice-write-cs c = kept-room _ _ _ (c .before .before .before .loop .inv .1) (c .before .before .loop-test .taken) (sym (c .before .is-kin .ensures) ∙ c .if1 .taken) (rw zero-add (c .before .before .before .before .before .before .before .pre .1))
+slice-write-cs c = kept-room _ _ _ (c .before .before .before .loop .inv .1) (c .before .before .loop-test .taken) (kin-test _ _ _ _ (c .before .parent .ensures) (c .if1 .taken)) (rw zero-add (c .before .before .before .before .before .before .before .pre .1))
 
 add-w : tie.Need-add-w Inv-loop μ-loop
 add-w c = search needs
@@ -49,10 +51,10 @@ loop-less c = search needs
 loop-again : tie.Need-loop-again Inv-loop μ-loop
 loop-again c = let l = c .before .before .before .loop in
     let t = c .before .before .loop-test .taken in
-    let e = sym (c .before .is-kin .ensures) in
+    let p = c .before .parent .ensures in
     ⊎-elim
-    (λ w. (search needs, rw (w .1, w .2) (kept _ _ _ (l .inv .1) t (e ∙ w .0 .taken))))
-    (λ w. (search needs, rw (w .1, w .2) (skipped _ _ _ (l .inv .1) t (e ∙ w .0 .left))))
+    (λ w. (search needs, rw (w .1, w .2) (kept _ _ _ (l .inv .1) t (kin-test _ _ _ _ p (w .0 .taken)))))
+    (λ w. (search needs, rw (w .1, w .2) (skipped _ _ _ (l .inv .1) t (kin-test _ _ _ _ p (w .0 .left)))))
     (c .if1 .came)
 
 same-length : tie.Need-same-length Inv-loop μ-loop
@@ -69,8 +71,9 @@ kin-spec =
     μ-loop
     node-count-requires
     loop-holds
-    cast-is-kin
-    is-kin-requires
+    cast-parent
+    parent-requires
+    cast-if1
     cast-cs
     slice-write-cs
     add-w

@@ -2,7 +2,7 @@
 use mathlib.Core.Logic.{⊎-elim}
 use native.Mathlib.Omega.{arith}
 use Rattle.guard.proofs.PutLaws.{put-as}
-use Rattle.guard.proofs.RowLaws.{start-serial, start-contingency, start-conditional, start-block, start-root}
+use Rattle.guard.proofs.RowLaws.{first-serial, later-serial, first-contingency, later-contingency, first-conditional, later-conditional, start-block, start-root}
 use borrow.Author.Needs.{needs}
 use Rattle.guard.proofs.fill.start.Statement.{statement}
 use Rattle.guard.proofs.fill.start.Tie as tie
@@ -10,17 +10,26 @@ use Rattle.guard.proofs.fill.start.Tie as tie
 before-requires : tie.Need-before-requires
 before-requires c κs = search needs
 
-one-of-requires : tie.Need-one-of-requires
-one-of-requires c κs = search needs
-
-one-of-requires-2 : tie.Need-one-of-requires-2
-one-of-requires-2 c κs = search needs
-
-one-of-requires-3 : tie.Need-one-of-requires-3
-one-of-requires-3 c κs = search needs
-
 one-requires : tie.Need-one-requires
 one-requires c κs = search needs
+
+one-requires-2 : tie.Need-one-requires-2
+one-requires-2 c κs = search needs
+
+one-requires-3 : tie.Need-one-requires-3
+one-requires-3 c κs = search needs
+
+one-requires-4 : tie.Need-one-requires-4
+one-requires-4 c κs = search needs
+
+one-requires-5 : tie.Need-one-requires-5
+one-requires-5 c κs = search needs
+
+one-requires-6 : tie.Need-one-requires-6
+one-requires-6 c κs = search needs
+
+one-requires-7 : tie.Need-one-requires-7
+one-requires-7 c κs = search needs
 
 slice-aggregate-each : tie.Need-slice-aggregate-each
 slice-aggregate-each c = search needs
@@ -35,41 +44,62 @@ same-length : tie.Need-same-length
 same-length c = search needs
 
 returns : tie.Need-returns
-returns c = put-as (start-serial _ _ _ _ (c .before .before .before .before .before .before2 .ensures) (c .before .before .before .before .match .keys1)) (c .before .before .one-of .ensures)
+returns c = put-as (first-serial _ _ _ _ (c .before .before .before .before .before .before .before2 .ensures) (c .before .before .before .before .if1 .taken) (c .before .before .before .before .before .match .keys1)) (c .before .before .one .ensures)
 
 same-length-2 : tie.Need-same-length-2
 same-length-2 c = search needs
 
 returns-2 : tie.Need-returns-2
-returns-2 c = put-as (start-contingency _ _ _ _ (c .before .before .before .before .before .before2 .ensures) (c .before .before .before .before .match .keys2)) (c .before .before .one-of2 .ensures)
+returns-2 c = put-as (later-serial _ _ _ _ (c .before .before .before .before .before .before .before2 .ensures) (c .before .before .before .before .if1 .left) (c .before .before .before .before .before .match .keys1)) (c .before .before .one2 .ensures)
 
 same-length-3 : tie.Need-same-length-3
 same-length-3 c = search needs
 
 returns-3 : tie.Need-returns-3
-returns-3 c = put-as (start-conditional _ _ _ _ (c .before .before .before .before .before .before2 .ensures) (c .before .before .before .before .match .keys3)) (c .before .before .one-of3 .ensures)
+returns-3 c = put-as (first-contingency _ _ _ _ (c .before .before .before .before .before .before .before2 .ensures) (c .before .before .before .before .if2 .taken) (c .before .before .before .before .before .match .keys2)) (c .before .before .one3 .ensures)
 
 same-length-4 : tie.Need-same-length-4
 same-length-4 c = search needs
 
 returns-4 : tie.Need-returns-4
-returns-4 c = put-as (start-block _ _ _ _ (omega arith) (omega arith)) (c .before .before .one .ensures)
+returns-4 c = put-as (later-contingency _ _ _ _ (c .before .before .before .before .before .before .before2 .ensures) (c .before .before .before .before .if2 .left) (c .before .before .before .before .before .match .keys2)) (c .before .before .one4 .ensures)
 
 same-length-5 : tie.Need-same-length-5
 same-length-5 c = search needs
 
 returns-5 : tie.Need-returns-5
-returns-5 c = put-as (start-root _ _ _ _ (λ a b. ⊎-elim (λ w. omega arith) (λ w. omega arith) (c .before .before .before .before .before .before .if1 .came))) (c .before .before .each .ensures)
+returns-5 c = put-as (first-conditional _ _ _ _ (c .before .before .before .before .before .before .before2 .ensures) (c .before .before .before .before .if3 .taken) (c .before .before .before .before .before .match .keys3)) (c .before .before .one5 .ensures)
+
+same-length-6 : tie.Need-same-length-6
+same-length-6 c = search needs
+
+returns-6 : tie.Need-returns-6
+returns-6 c = put-as (later-conditional _ _ _ _ (c .before .before .before .before .before .before .before2 .ensures) (c .before .before .before .before .if3 .left) (c .before .before .before .before .before .match .keys3)) (c .before .before .one6 .ensures)
+
+same-length-7 : tie.Need-same-length-7
+same-length-7 c = search needs
+
+returns-7 : tie.Need-returns-7
+returns-7 c = put-as (start-block _ _ _ _ (omega arith) (omega arith)) (c .before .before .one7 .ensures)
+
+same-length-8 : tie.Need-same-length-8
+same-length-8 c = search needs
+
+returns-8 : tie.Need-returns-8
+returns-8 c = put-as (start-root _ _ _ _ (λ a b. ⊎-elim (λ w. omega arith) (λ w. omega arith) (c .before .before .before .before .before .before .if4 .came))) (c .before .before .each .ensures)
 
 pub start-spec : {M : Type 1} → statement M
 start-spec =
     tie.close
     (tie.spec
     before-requires
-    one-of-requires
-    one-of-requires-2
-    one-of-requires-3
     one-requires
+    one-requires-2
+    one-requires-3
+    one-requires-4
+    one-requires-5
+    one-requires-6
+    one-requires-7
     slice-aggregate-each
     slice-aggregate-each-2
     each-requires
@@ -82,4 +112,10 @@ start-spec =
     same-length-4
     returns-4
     same-length-5
-    returns-5)
+    returns-5
+    same-length-6
+    returns-6
+    same-length-7
+    returns-7
+    same-length-8
+    returns-8)
