@@ -1,4 +1,4 @@
--- The guard writer's answer as a result. Assumes nothing.
+-- The guard writer's answer and a ruling, as results. Assumes nothing.
 use mathlib.Core.Path.{_≡_, sym, ap, _∙_}
 use mathlib.Core.List.{List}
 use Prim.Native.Nat.{ℕ, _*_, _≤_}
@@ -9,7 +9,9 @@ use Rattle.guard.specs.declared.Written.{Written}
 use Rattle.guard.specs.declared.Written.the-variants.{Done, Refused}
 use Rattle.guard.proofs.WriteLaws.{write-done}
 use Rattle.guard.proofs.Short.{guard-short}
-use Rattle.vulcedar.specs.Result.{result, ofWritten}
+use Rattle.central.specs.Rule.{Ruled, ruled}
+use Rattle.central.specs.declared.Ruling.{Ruling}
+use Rattle.vulcedar.specs.Result.{result, ofWritten, ofRuling}
 
 module _ (p : List ℕ) (code node : ℕ) (b b′ : List ℕ) (w : Written) (h : writeOf p code node b ≡ filled b′ w) (n : ℕ) where
   pub done-short : w ≡ Done n → n ≤ 290
@@ -27,3 +29,7 @@ module _ (p : List ℕ) (code node : ℕ) (b b′ : List ℕ) (w : Written) (h :
   refused-result e r f =
       let q = h ∙ ap (filled b′) e in
       (f ∙ sym (ap (λ s. ofWritten (s .answer)) q), sym (ap (λ s. s .buffer) q))
+
+-- a ruling's result, and the bytes beside it
+pub ruling-result : (s : Ruled) (m k : List ℕ) (w : Ruling) → s ≡ ruled m k w → (r : ℕ) → r ≡ ofRuling w → (r ≡ ofRuling (s .ruling)) × ((m ≡ s .marks) × (k ≡ s .notes))
+ruling-result s m k w h r e = (e ∙ sym (ap (λ x. ofRuling (x .ruling)) h), (sym (ap (λ x. x .marks) h), sym (ap (λ x. x .notes) h)))

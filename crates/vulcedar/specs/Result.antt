@@ -4,6 +4,8 @@ use Rattle.guard.specs.declared.Written.{Written}
 use Rattle.guard.specs.declared.Written.the-variants as written
 use Rattle.site.specs.Verdict.{verdictNumber, verdictSite}
 use Rattle.site.specs.declared.Verdict.{Verdict}
+use Rattle.central.specs.declared.Ruling.{Ruling}
+use Rattle.central.specs.declared.Ruling.the-variants as ruling
 
 abbrev pub result : ℕ → ℕ → ℕ → ℕ
 result n q v = n + 256 * q + 65536 * v
@@ -15,3 +17,9 @@ ofWritten (written.Refused n) = result n 0 0
 
 unfoldable pub ofVerdict : Verdict → ℕ
 ofVerdict v = result (verdictNumber v) (verdictSite v) 0
+
+-- allowed is the value 1, forbidden 0
+unfoldable pub ofRuling : Ruling → ℕ
+ofRuling ruling.Allowed = result 0 0 1
+ofRuling ruling.Forbidden = result 0 0 0
+ofRuling (ruling.Refused n) = result n 0 0

@@ -5,9 +5,10 @@ ghost use Prim.Native.Nat.{_+_, _*_, _≤_};
 ghost use Rattle.plan.specs.Check.{checkNumber};
 ghost use Rattle.guard.specs.Written.{writeOf};
 ghost use Rattle.site.specs.Step.{stepOf, hearOf};
+ghost use Rattle.central.specs.Rule.{ruleOf};
 ghost use Rattle.pass.specs.Pass.{passInto};
 ghost use Rattle.simulation.specs.Run.{simulateOf, recordInto};
-ghost use Rattle.vulcedar.specs.Result.{result, ofWritten, ofVerdict};
+ghost use Rattle.vulcedar.specs.Result.{result, ofWritten, ofVerdict, ofRuling};
 
 fn wide32(x: u8) -> u32
     ensures { λ r. ⌜ r ≡ x ⌝ }
@@ -66,7 +67,13 @@ pub extern "C" fn vulcedar_pass(plan: &[u8], answers: &[u8], marks: &mut [u8]) -
 }
 
 #[no_mangle]
-pub extern "C" fn vulcedar_simulate(plan: &[u8], code: u32, node: u32, site: u32, state: &mut [u8]) -> u32
+pub extern "C" fn vulcedar_simulate(
+    plan: &[u8],
+    code: u32,
+    node: u32,
+    site: u32,
+    state: &mut [u8],
+) -> u32
     ensures { λ r. ⌜ r ≡ result (simulateOf (now (plan .entry)) code node site (now (state .entry)) .number) (simulateOf (now (plan .entry)) code node site (now (state .entry)) .site) 0 ⌝ }
     ensures { λ r. ⌜ now (state .exit) ≡ simulateOf (now (plan .entry)) code node site (now (state .entry)) .state ⌝ }
 {
@@ -75,10 +82,35 @@ pub extern "C" fn vulcedar_simulate(plan: &[u8], code: u32, node: u32, site: u32
 }
 
 #[no_mangle]
-pub extern "C" fn vulcedar_record(plan: &[u8], state: &[u8], marks: &mut [u8], classes: &mut [u8]) -> u32
+pub extern "C" fn vulcedar_record(
+    plan: &[u8],
+    state: &[u8],
+    marks: &mut [u8],
+    classes: &mut [u8],
+) -> u32
     ensures { λ r. ⌜ r ≡ result (recordInto (now (plan .entry)) (now (state .entry)) (now (marks .entry)) (now (classes .entry)) .number) 0 0 ⌝ }
     ensures { λ r. ⌜ now (marks .exit) ≡ recordInto (now (plan .entry)) (now (state .entry)) (now (marks .entry)) (now (classes .entry)) .marks ⌝ }
     ensures { λ r. ⌜ now (classes .exit) ≡ recordInto (now (plan .entry)) (now (state .entry)) (now (marks .entry)) (now (classes .entry)) .classes ⌝ }
 {
     packed(simulation::record(plan, state, marks, classes), 0)
+}
+
+#[no_mangle]
+pub extern "C" fn vulcedar_central(
+    plan: &[u8],
+    code: u32,
+    node: u32,
+    marks: &mut [u8],
+    notes: &mut [u8],
+) -> u32
+    ensures { λ r. ⌜ r ≡ ofRuling (ruleOf (now (plan .entry)) code node (now (marks .entry)) (now (notes .entry)) .ruling) ⌝ }
+    ensures { λ r. ⌜ now (marks .exit) ≡ ruleOf (now (plan .entry)) code node (now (marks .entry)) (now (notes .entry)) .marks ⌝ }
+    ensures { λ r. ⌜ now (notes .exit) ≡ ruleOf (now (plan .entry)) code node (now (marks .entry)) (now (notes .entry)) .notes ⌝ }
+{
+    let r = central::rule(plan, code, node, marks, notes);
+    match r {
+        central::Ruling::Allowed => 65536,
+        central::Ruling::Forbidden => 0,
+        central::Ruling::Refused(n) => packed(n, 0),
+    }
 }

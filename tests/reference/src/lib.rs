@@ -1,4 +1,4 @@
-//! An independent implementation of docs/01-scope.md.
+//! An independent implementation of document 01.
 //!
 //! It was written from that document alone, so that a mistake made elsewhere
 //! is not made here a second time. The C archive is compared with it, and it

@@ -37,7 +37,7 @@ same-length-2 : tie.Need-same-length-2
 same-length-2 c = search needs
 
 returns-2 : tie.Need-returns-2
-returns-2 c = refused-result _ _ _ _ _ _ (c .before .before .before .before .before .before .write-guard .ensures) _ (c .before .before .w .given .1) _ (c .packed .ensures)
+returns-2 c = refused-result _ _ _ _ _ _ (c .before .before .before .before .before .before .write-guard .ensures) _ (c .before .before .w2 .given .1) _ (c .packed .ensures)
 
 pub vulcedar-guard-spec : {M : Type 1} → statement M
 vulcedar-guard-spec =

@@ -18,7 +18,7 @@ same-length-2 : tie.Need-same-length-2
 same-length-2 c = search needs
 
 returns : tie.Need-returns
-returns c = let e = sym (c .before .before .before .before .before .record .ensures) in (c .packed .ensures ∙ ap (λ s. result (s .number) 0 0) e, ap (λ s. s .marks) e, ap (λ s. s .classes) e)
+returns c = let e = sym (c .before .before .before .before .before .record .ensures) in (c .packed .ensures ∙ ap (λ s. result (s .number) 0 0) e, (ap (λ s. s .marks) e, ap (λ s. s .classes) e))
 
 pub vulcedar-record-spec : {M : Type 1} → statement M
 vulcedar-record-spec =

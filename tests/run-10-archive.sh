@@ -1,0 +1,6 @@
+#!/usr/bin/env bash
+# Builds target/staticlib/libvulcedar.a, which the other checks here link.
+set -euo pipefail
+cd "$(dirname "$0")/.."
+rt staticlib vulcedar
+test -s target/staticlib/libvulcedar.a

@@ -1,0 +1,15 @@
+#!/usr/bin/env bash
+# The independent reference: its own tests, then the archive (and the program rehearse, once it is built) against it.
+set -euo pipefail
+cd "$(dirname "$0")/.."
+if ! command -v cargo > /dev/null; then
+  apt-get update -q > /dev/null
+  apt-get install -y -q cargo rustc > /dev/null
+fi
+export CARGO_TARGET_DIR="$PWD/target/cargo" CARGO_NET_OFFLINE=true
+cd tests
+cargo test --release --offline --quiet
+if [ -x ../target/bin/rehearse ]; then
+  export VULCEDAR_REHEARSE="$PWD/../target/bin/rehearse"
+fi
+cargo run --release --offline --quiet -p differential --features archive
