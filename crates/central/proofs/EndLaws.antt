@@ -13,14 +13,14 @@ use Rattle.lists.proofs.Search.{any-opposite}
 use Rattle.plan.specs.Plan.{xor, kindNumber, kindOf, size, kindByte, kind, children, aboveByte, inXor}
 use Rattle.plan.specs.Check.{Accepted}
 use Rattle.plan.proofs.PlanLaws.{kind-byte}
-use Rattle.plan.proofs.KindLaws.{is-kind, above-byte}
+use Rattle.plan.proofs.KindLaws.{is-kind, above-byte, kind-other}
 use Rattle.event.specs.Event.{commit}
 use Rattle.event.proofs.CodeLaws.{two}
 use Rattle.central.specs.Mark.{committed, failed}
 use Rattle.central.specs.Central.{Answer, none, said-yes, said-no, Central, marked, ofBranch, finishesBy, failsBy, allowedBy}
 use Rattle.central.specs.Rule.{answerOf, stateOf}
 use Rattle.central.specs.Scan.{answerNumber, markIn, pickedAt}
-use Rattle.central.proofs.Tests.{three, kind-other}
+use Rattle.central.proofs.Tests.{three}
 use Rattle.central.proofs.MarkLaws.{at-running, at-offered, in-committed, in-failed, in-ended, in-settled, in-opposite}
 use Rattle.central.proofs.NoteLaws.{answer-read, picked-read}
 

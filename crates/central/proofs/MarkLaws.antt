@@ -57,10 +57,10 @@ module _ (set : ℕ) (marks : List ℕ) (v b : ℕ) (e : b ≡ getD marks v 0) w
   byte-high l = rw (← e, mark-high b l)
 
 -- all there are
-marks : List Mark
+unfoldable pub marks : List Mark
 marks = idle ∷ running ∷ offered ∷ committed ∷ failed ∷ turned-down ∷ []
 
-in-marks : (m : Mark) → In m marks
+pub in-marks : (m : Mark) → In m marks
 unfolding marks
 in-marks idle = here refl
 in-marks running = there (here refl)

@@ -16,7 +16,8 @@ use Rattle.event.specs.Event.{start}
 use Rattle.central.specs.Central.{Central, reachedBy, mayStart, allowedBy}
 use Rattle.central.specs.Rule.{answerOf, stateOf}
 use Rattle.central.specs.Scan.{answerNumber, markIn}
-use Rattle.central.proofs.Tests.{three, kind-other}
+use Rattle.plan.proofs.KindLaws.{kind-other}
+use Rattle.central.proofs.Tests.{three}
 use Rattle.central.proofs.MarkLaws.{at-idle, in-committed, in-failed, in-none}
 use Rattle.central.proofs.NoteLaws.{is-yes, is-no, answer-read}
 

@@ -5,9 +5,8 @@ use mathlib.Core.Logic.{_⊎_, inl, inr, ⊎-elim}
 use Prim.Native.Nat.{ℕ, _+_, _≤_, _<_}
 use native.Mathlib.Omega.{arith}
 use lib.Dec.{eqb}
-use borrow.Author.Tests.{eqb-true, eqb-false, ne-eqb}
+use borrow.Author.Tests.{eqb-true, eqb-false}
 use Rattle.lists.proofs.Logic.{cases, decided}
-use Rattle.plan.specs.Plan.{task, kindOf}
 use Rattle.event.proofs.CodeLaws.{two}
 
 -- what the code answers at `a && b`: r is the first test's answer, q the second's
@@ -32,16 +31,3 @@ past-kinds k h a b = omega arith
 pub last-code : (n : ℕ) → 1 ≤ n → n ≤ 8 → (n ≡ 7 → ⊥) → (n < 1) ⊎ (6 < n) → n ≡ 8
 last-code n low high h = ⊎-elim (λ l. omega arith) (λ l. omega arith)
 
--- a byte that is no block's
-pub kind-other : (k : ℕ) → (2 ≤ k → k ≤ 7 → ⊥) → kindOf k ≡ task
-unfolding kindOf
-kind-other k h =
-    let ne : (m : ℕ) → 2 ≤ m → m ≤ 7 → eqb k m ≡ false = λ m a b. ne-eqb k m (λ e. h (rw e a) (rw e b)) in
-    simp (
-      ne 2 (omega arith) (omega arith),
-      ne 3 (omega arith) (omega arith),
-      ne 4 (omega arith) (omega arith),
-      ne 5 (omega arith) (omega arith),
-      ne 6 (omega arith) (omega arith),
-      ne 7 (omega arith) (omega arith),
-    )

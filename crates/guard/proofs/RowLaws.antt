@@ -13,7 +13,7 @@ use Rattle.lists.specs.Seq.{keep, upFrom, lastOr}
 use Rattle.lists.proofs.Keep.{keep-keep}
 use Rattle.plan.specs.Plan.{Kind, task, serial, and, or, xor, contingency, conditional, kindNumber, isKind, kindOf, size, kind, parent, childrenBelow, children, others, above, inXor}
 use Rattle.plan.specs.Check.{Accepted}
-use Rattle.plan.proofs.KindLaws.{is-kind}
+use Rattle.plan.proofs.KindLaws.{is-kind, kind-other}
 use Rattle.event.specs.Event.{Code, start, offer, commit, abort, answered-yes, answered-no, pick, down, codeNumber, codeOf, Event, at}
 use Rattle.event.proofs.CodeLaws.{two, code-down}
 use Rattle.guard.specs.Guard.{one, each, anyOf, isFirst, beforeIn, startBy, finishBy, abortBy, finishing, aborting, guardBy, guard}
@@ -22,20 +22,6 @@ use Rattle.guard.specs.Put.{oneBytes, eachBytes, eachAnyBytes}
 use Rattle.guard.specs.Row.{isKin, kin, rowBy}
 use Rattle.guard.proofs.Shapes.{encode-one, encode-each, encode-each-any}
 use Rattle.guard.proofs.KinLaws.{first-before}
-
--- no number of a block
-kind-none : (k : ℕ) → (2 ≤ k → k ≤ 7 → ⊥) → kindOf k ≡ task
-unfolding kindOf
-kind-none k h =
-    let ne : (m : ℕ) → 2 ≤ m → m ≤ 7 → eqb k m ≡ false = λ m a b. ne-eqb k m (λ e. h (rw e a) (rw e b)) in
-    simp (
-      ne 2 (omega arith) (omega arith),
-      ne 3 (omega arith) (omega arith),
-      ne 4 (omega arith) (omega arith),
-      ne 5 (omega arith) (omega arith),
-      ne 6 (omega arith) (omega arith),
-      ne 7 (omega arith) (omega arith),
-    )
 
 -- finishing and abort, by the node's kind
 module _ (k v : ℕ) (cs : List ℕ) where
@@ -61,7 +47,7 @@ module _ (k v : ℕ) (cs : List ℕ) where
 
   pub finish-task : (2 ≤ k → k ≤ 7 → ⊥) → encode (finishBy (kindOf k) v cs) ≡ oneBytes 1 v
   unfolding finishBy codeNumber
-  finish-task h = rw (kind-none k h) (encode-one start v)
+  finish-task h = rw (kind-other k h) (encode-one start v)
 
   pub abort-any : (k ≡ 2) ⊎ (k ≡ 7) → encode (abortBy (kindOf k) v cs) ≡ eachAnyBytes [] [] 4 cs
   unfolding kindOf abortBy codeNumber
@@ -81,7 +67,7 @@ module _ (k v : ℕ) (cs : List ℕ) where
 
   pub abort-task : (2 ≤ k → k ≤ 7 → ⊥) → encode (abortBy (kindOf k) v cs) ≡ oneBytes 1 v
   unfolding abortBy codeNumber
-  abort-task h = rw (kind-none k h) (encode-one start v)
+  abort-task h = rw (kind-other k h) (encode-one start v)
 
 -- start, by the parent's kind; d is the one before v, or v itself where it is the first
 module _ (k u : ℕ) (cs : List ℕ) (v : ℕ) {d : ℕ} (is : d ≡ beforeIn v cs v) where
@@ -126,7 +112,7 @@ module _ (k u : ℕ) (cs : List ℕ) (v : ℕ) where
 
   pub start-root : (2 ≤ k → k ≤ 7 → ⊥) → encode (startBy (kindOf k) u cs v) ≡ eachBytes [] [] 0
   unfolding startBy
-  start-root h = rw (kind-none k h) (encode-each [] [])
+  start-root h = rw (kind-other k h) (encode-each [] [])
 
 -- every event, by its code
 module _ (code k above u v : ℕ) (cs : List ℕ) where

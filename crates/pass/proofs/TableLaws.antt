@@ -12,22 +12,9 @@ use Rattle.lists.proofs.Logic.{cases, decided}
 use Rattle.lists.specs.Seq.{upFrom}
 use Rattle.lists.proofs.Between.{between}
 use Rattle.plan.specs.Plan.{Kind, task, serial, and, or, xor, contingency, conditional, kindNumber, isKind, kindOf, kindByte, kind}
-use Rattle.plan.proofs.KindLaws.{is-kind}
+use Rattle.plan.proofs.KindLaws.{is-kind, kind-other}
 use Rattle.pass.specs.Pass.{Outcome, works, breaks, fault, Tally, goesBy, goes, goodMark, note, childMark, oneOrTwo, badAnswer, badPick, closes, ending}
 use Rattle.pass.specs.Record.{classTable, class}
-
--- a byte that is no block's
-pub kind-other : (k : ℕ) → (2 ≤ k → k ≤ 7 → ⊥) → kindOf k ≡ task
-unfolding kindOf
-kind-other k n =
-    simp (
-      ne-eqb k 2 (λ e. n (omega arith) (omega arith)),
-      ne-eqb k 3 (λ e. n (omega arith) (omega arith)),
-      ne-eqb k 4 (λ e. n (omega arith) (omega arith)),
-      ne-eqb k 5 (λ e. n (omega arith) (omega arith)),
-      ne-eqb k 6 (λ e. n (omega arith) (omega arith)),
-      ne-eqb k 7 (λ e. n (omega arith) (omega arith)),
-    )
 
 module _ (k a : ℕ) where
   pub answer-block : 2 ≤ k → k < 7 → 0 ≡ badAnswer (kindOf k) a

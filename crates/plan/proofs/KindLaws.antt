@@ -32,17 +32,23 @@ fits-low zero n l = refl
 fits-low (suc zero) n l = refl
 fits-low (suc (suc k)) n l = absurd (omega arith)
 
-pub fits-high : (k n : ℕ) → 7 < k → fits (kindOf k) n ≡ eqb n 0
-unfolding fits kindOf
-fits-high k n l =
+-- a byte that is no block's kind is a task's
+pub kind-other : (k : ℕ) → (2 ≤ k → k ≤ 7 → ⊥) → kindOf k ≡ task
+unfolding kindOf
+kind-other k h =
+    let ne : (m : ℕ) → 2 ≤ m → m ≤ 7 → eqb k m ≡ false = λ m a b. ne-eqb k m (λ e. h (rw e a) (rw e b)) in
     simp (
-      ne-eqb k 2 (λ e. omega arith),
-      ne-eqb k 3 (λ e. omega arith),
-      ne-eqb k 4 (λ e. omega arith),
-      ne-eqb k 5 (λ e. omega arith),
-      ne-eqb k 6 (λ e. omega arith),
-      ne-eqb k 7 (λ e. omega arith),
+      ne 2 (omega arith) (omega arith),
+      ne 3 (omega arith) (omega arith),
+      ne 4 (omega arith) (omega arith),
+      ne 5 (omega arith) (omega arith),
+      ne 6 (omega arith) (omega arith),
+      ne 7 (omega arith) (omega arith),
     )
+
+pub fits-high : (k n : ℕ) → 7 < k → fits (kindOf k) n ≡ eqb n 0
+unfolding fits
+fits-high k n l = rw (kind-other k (λ a b. omega arith))
 
 pub fits-two : (k n : ℕ) → k ≡ 7 → fits (kindOf k) n ≡ eqb n 2
 unfolding fits kindOf

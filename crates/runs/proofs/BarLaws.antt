@@ -8,7 +8,7 @@ use Rattle.lists.proofs.Members.{all-at}
 use Rattle.event.specs.Event.{at}
 use Rattle.event.proofs.BitLaws.{beq-true}
 use Rattle.central.specs.Mark.{Mark, idle, running, offered, committed, failed, turned-down, markNumber, isMark}
-use Rattle.runs.proofs.Finite.{marks, in-marks}
+use Rattle.central.proofs.MarkLaws.{marks, in-marks}
 
 -- to offer, to commit outside an xor, and to abort: b says that the event is barred, g that its guard holds, f that the central rule's test does
 pub end-by : (b g f : Bool) (m : Mark) → (not (isMark idle m) ≡ true → b ≡ not (isMark running m)) → (g ≡ true → not (isMark idle m) ≡ true) →

@@ -18,7 +18,8 @@ use Rattle.event.specs.Event.{Code, start, offer, commit, abort, answered-yes, 
 use Rattle.event.proofs.CodeLaws.{codes}
 use Rattle.central.specs.Mark.{Mark, idle, running, offered, committed, failed, turned-down, markNumber, isMark}
 use Rattle.central.specs.Central.{Answer, none, said-yes, said-no, Central, fresh, markAfter, answerAfter, pickedAfter, after, isYes, isNo, allowedBy, allowed, runFrom, isRun, reaches}
-use Rattle.runs.proofs.Finite.{marks, answers, bools, tested, tested-at, implied}
+use Rattle.central.proofs.MarkLaws.{marks}
+use Rattle.runs.proofs.Finite.{answers, bools, tested, tested-at, implied}
 use Rattle.runs.proofs.Said.{readyBy, ready-of}
 use Rattle.runs.proofs.Family.{xor-child}
 

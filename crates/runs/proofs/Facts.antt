@@ -15,7 +15,8 @@ use Rattle.plan.proofs.PlanLaws.{child-of, child-in}
 use Rattle.event.specs.Event.{offer, pick, at, appliesBy, applies}
 use Rattle.central.specs.Mark.{idle, offered, committed, failed, turned-down, markNumber, isMark}
 use Rattle.central.specs.Central.{Central, marked, started, reachedBy, mayStart, finishesBy}
-use Rattle.runs.proofs.Finite.{marks, mark-implies}
+use Rattle.central.proofs.MarkLaws.{marks}
+use Rattle.runs.proofs.Finite.{mark-implies}
 use Rattle.runs.proofs.Said.{saidBy, said}
 use Rattle.runs.proofs.Family.{xor-child}
 use Rattle.runs.proofs.Good.{Good}

@@ -8,27 +8,16 @@ use Rattle.lists.specs.Member.{In, here, there}
 use Rattle.lists.proofs.Members.{all-at}
 use Rattle.event.specs.Event.{Code}
 use Rattle.event.proofs.CodeLaws.{codes, in-codes}
-use Rattle.central.specs.Mark.{Mark, idle, running, offered, committed, failed, turned-down}
+use Rattle.central.specs.Mark.{Mark}
 use Rattle.central.specs.Central.{Answer, none, said-yes, said-no}
+use Rattle.central.proofs.MarkLaws.{marks, in-marks}
 
 -- all there are
-unfoldable pub marks : List Mark
-marks = idle ∷ running ∷ offered ∷ committed ∷ failed ∷ turned-down ∷ []
-
 unfoldable pub answers : List Answer
 answers = none ∷ said-yes ∷ said-no ∷ []
 
 unfoldable pub bools : List Bool
 bools = true ∷ false ∷ []
-
-pub in-marks : (m : Mark) → In m marks
-unfolding marks
-in-marks idle = here refl
-in-marks running = there (here refl)
-in-marks offered = there (there (here refl))
-in-marks committed = there (there (there (here refl)))
-in-marks failed = there (there (there (there (here refl))))
-in-marks turned-down = there (there (there (there (there (here refl)))))
 
 in-answers : (a : Answer) → In a answers
 unfolding answers

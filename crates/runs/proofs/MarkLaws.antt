@@ -10,16 +10,8 @@ use Rattle.central.specs.Mark.{Mark, idle, running, offered, committed, failed,
 use Rattle.central.specs.Central.{Central, marked}
 use Rattle.pass.specs.Pass.{Outcome, works, breaks, numberOf}
 use Rattle.runs.specs.Claims.{ended}
-use Rattle.runs.proofs.Finite.{marks, mark-implies}
-
-mark-back : (m : Mark) → markOf (markNumber m) ≡ m
-unfolding markOf markNumber
-mark-back idle = refl
-mark-back running = refl
-mark-back offered = refl
-mark-back committed = refl
-mark-back failed = refl
-mark-back turned-down = refl
+use Rattle.central.proofs.MarkLaws.{mark-back, marks}
+use Rattle.runs.proofs.Finite.{mark-implies}
 
 pub mark-is : (j m : Mark) → isMark j m ≡ true → m ≡ j
 unfolding isMark

@@ -14,7 +14,8 @@ use Rattle.event.proofs.CodeLaws.{codes, in-codes, code-back}
 use Rattle.event.proofs.BitLaws.{beq-true}
 use Rattle.central.specs.Mark.{Mark, idle, running, offered, committed, failed, turned-down, markNumber, isMark}
 use Rattle.central.specs.Central.{Answer, none, Central, fresh, markAfter, answerAfter, pickedAfter, after, isYes, isNo, allowedBy, allowed, runFrom, isRun, reaches}
-use Rattle.runs.proofs.Finite.{marks, answers, bools, tested, tested-at, implied}
+use Rattle.central.proofs.MarkLaws.{marks}
+use Rattle.runs.proofs.Finite.{answers, bools, tested, tested-at, implied}
 
 -- x: the node is a child of an xor
 unfoldable pub saidBy : Code → Bool → Mark → Answer → Bool → Bool
