@@ -10,6 +10,7 @@ export CARGO_TARGET_DIR="$PWD/target/cargo" CARGO_NET_OFFLINE=true
 cd tests
 cargo test --release --offline --quiet
 if [ -x ../target/bin/rehearse ]; then
-  export VULCEDAR_REHEARSE="$PWD/../target/bin/rehearse"
+  VULCEDAR_REHEARSE="$PWD/../target/bin/rehearse" cargo run --release --offline --quiet -p differential --features archive
+else
+  cargo run --release --offline --quiet -p differential --features archive -- --texts 0
 fi
-cargo run --release --offline --quiet -p differential --features archive

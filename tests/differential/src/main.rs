@@ -5,7 +5,7 @@
 
 use differential::broken::{Broken, Mistake};
 use differential::run::{Options, run};
-use differential::tally::Tally;
+use differential::tally::{Function, Tally};
 use differential::{Implementation, Reference};
 use std::env;
 use std::process::ExitCode;
@@ -49,8 +49,8 @@ fn start((mode, options): (Mode, Options)) -> Result<ExitCode, String> {
 
 #[cfg(feature = "archive")]
 fn start_archive(options: Options) -> Result<ExitCode, String> {
-    let program =
-        env::var_os("VULCEDAR_REHEARSE").ok_or("VULCEDAR_REHEARSE must name the program rehearse")?;
+    let program = env::var_os("VULCEDAR_REHEARSE").or((options.texts == 0).then(Default::default));
+    let program = program.ok_or("VULCEDAR_REHEARSE must name the program rehearse, unless --texts is 0")?;
     let program = differential::program::Program { path: program.into() };
     let archive = differential::archive::Archive { program };
     Ok(compare("the archive and the program", archive, options))
@@ -69,7 +69,8 @@ fn compare(name: &str, subject: impl Implementation, options: Options) -> ExitCo
     println!("{tally}");
     println!("time: {:.1} s", begin.elapsed().as_secs_f64());
     tally.described().iter().for_each(|difference| println!("difference: {difference}"));
-    let missing = if options.only.is_some() { vec![] } else { tally.missing() };
+    let mut missing = if options.only.is_some() { vec![] } else { tally.missing() };
+    missing.retain(|(function, _)| options.texts > 0 || *function != Function::Rehearse);
     missing.iter().for_each(|(function, number)| println!("never met: {} {number}", function.name()));
     println!("differential: {} comparisons, {} differences", tally.comparisons(), tally.differences());
     verdict(&tally, missing.is_empty())
