@@ -30,4 +30,3 @@ past-kinds k h a b = omega arith
 -- the code that is left
 pub last-code : (n : ℕ) → 1 ≤ n → n ≤ 8 → (n ≡ 7 → ⊥) → (n < 1) ⊎ (6 < n) → n ≡ 8
 last-code n low high h = ⊎-elim (λ l. omega arith) (λ l. omega arith)
-
