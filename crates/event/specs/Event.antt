@@ -44,7 +44,7 @@ pub record Event : Type 0 where
 abbrev pub at : Code → ℕ → Event
 at c v = record { code = c; node = v }
 
--- the event of a code's number and a node's
+-- B1: the event of a code's number and a node's
 abbrev pub eventOf : ℕ → ℕ → Event
 eventOf code node = at (codeOf code) node
 
@@ -69,6 +69,6 @@ appliesBy down k x = x
 unfoldable pub applies : List ℕ → Event → Bool
 applies p e = ltb (e .node) (size p) && appliesBy (e .code) (kind p (e .node)) (inXor p (e .node))
 
--- the number is a code, and the node is in the plan
+-- H8: the number is a code, and the node is in the plan
 unfoldable pub known : List ℕ → ℕ → ℕ → Bool
 known p code node = isCode code && ltb node (size p)

@@ -83,7 +83,7 @@ guard p e = guardBy p (e .code) (e .node)
 unfoldable pub holds : (Event → Bool) → Guard → Bool
 holds heard g = all (any heard) g
 
--- D: the events that bar an event. Each happens at the event's own site, and every event is among its own
+-- D1: the events that bar an event. Each happens at the event's own site, and every event is among its own
 unfoldable pub barsBy : List ℕ → Code → ℕ → List Event
 barsBy p start v = at start v ∷ []
 barsBy p offer v = at offer v ∷ at abort v ∷ []

@@ -28,11 +28,11 @@ markByte b = cond (hasBit b 3) 3 (cond (hasBit b 4) 4 (cond (hasBit b 8) 5 (cond
 unfoldable pub simulateOf : List ℕ → ℕ → ℕ → ℕ → List ℕ → Reply
 simulateOf p code node site st = simulate p (own p) st (stepFrom code node site)
 
--- 1 to 6, then 7 where a length is wrong, else 0
+-- H1 to H7: 1 to 6, then 7 where a length is wrong, else 0
 unfoldable pub fitNumber : List ℕ → Bool → ℕ
 fitNumber p fits = cond (not (eqb (checkNumber p) 0)) (checkNumber p) (cond (not fits) 7 0)
 
--- the record into two buffers
+-- G3: the record into two buffers
 pub record Recorded : Type 0 where
   pub number : ℕ
   pub marks : List ℕ
@@ -69,7 +69,7 @@ pub record Ran : Type 0 where
 abbrev pub ran : ℕ → List ℕ → List ℕ → Ran
 ran n st ns = record { number = n; state = st; numbers = ns }
 
--- 7: the state is not nodes times nodes, the frames are not whole, or there is not one byte a frame for the numbers
+-- H7: the state is not nodes times nodes, the frames are not whole, or there is not one byte a frame for the numbers
 unfoldable pub runNumber : List ℕ → List ℕ → List ℕ → List ℕ → ℕ
 runNumber p bs st ns = fitNumber p (stateFits p (own p) st && eqb (length bs % 3) 0 && eqb (length ns) (length bs / 3))
 

@@ -1,4 +1,4 @@
--- A result for C, 32 bits: the number in bits 0 to 7, the event's site in bits 8 to 15, a value in bits 16 to 31. Definitions only.
+-- Results for C (rules K). Definitions only.
 use Prim.Native.Nat.{ℕ, _+_, _*_}
 use Rattle.guard.specs.declared.Written.{Written}
 use Rattle.guard.specs.declared.Written.the-variants as written
@@ -7,18 +7,20 @@ use Rattle.site.specs.declared.Verdict.{Verdict}
 use Rattle.central.specs.declared.Ruling.{Ruling}
 use Rattle.central.specs.declared.Ruling.the-variants as ruling
 
+-- K1: the number in bits 0 to 7, the event's site in bits 8 to 15, a value in bits 16 to 31
 abbrev pub result : ℕ → ℕ → ℕ → ℕ
 result n q v = n + 256 * q + 65536 * v
 
--- the guard's length is the value
+-- K2: the guard's length is the value
 unfoldable pub ofWritten : Written → ℕ
 ofWritten (written.Done n) = result 0 0 n
 ofWritten (written.Refused n) = result n 0 0
 
+-- K1: a verdict's number and site
 unfoldable pub ofVerdict : Verdict → ℕ
 ofVerdict v = result (verdictNumber v) (verdictSite v) 0
 
--- allowed is the value 1, forbidden 0
+-- K2: allowed is the value 1, forbidden 0
 unfoldable pub ofRuling : Ruling → ℕ
 ofRuling ruling.Allowed = result 0 0 1
 ofRuling ruling.Forbidden = result 0 0 0
