@@ -30,7 +30,8 @@ use Rattle.runs.proofs.Main.{guards-follow-rule, five-events, runs-end, stuck-i
 use Rattle.simulation.specs.Simulation.{rowOf, Step, simulate, replayFrom, passedFrom, heardFrom, zeros, replay, passed, heardAt, markAt, endMarks}
 use Rattle.simulation.specs.Claim.{rowAt, centralAfter, Informed, Over, Claim}
 use Rattle.simulation.proofs.View.{view, zero-bytes, zero-view}
-use Rattle.simulation.proofs.StepLaws.{step-passes, refused-leaves, repeat-leaves, step-valid}
+use Rattle.site.proofs.StepLaws.{step-passes}
+use Rattle.simulation.proofs.StepLaws.{refused-leaves, repeat-leaves, step-valid}
 use Rattle.simulation.proofs.Bridge.{decodeAll, stepOfMove, event-back, moves-back, DidAll, did-all}
 use Rattle.simulation.proofs.Marks.{mark-by-row}
 

@@ -11,7 +11,6 @@ use lib.ListN.{length, getD, take, drop, set, length-take, length-drop, take-app
 use lib.Seq.{getD-take, getD-drop, take-set-le, take-set-lt, drop-set-lt, drop-set-add}
 use Rattle.lists.proofs.Logic.{cases, decided, clash, and-join, same-bool}
 use Rattle.plan.specs.Plan.{size}
-use Rattle.plan.specs.Check.{checkNumber, Accepted}
 use Rattle.event.specs.Event.{codeNumber, isCode, eventOf, known}
 use Rattle.event.specs.Site.{hostOf, own, siteOf}
 use Rattle.event.specs.Bit.{hasBit, withBit}
@@ -20,12 +19,12 @@ use Rattle.event.proofs.CodeLaws.{code-number}
 use Rattle.event.proofs.ValidLaws.{valid}
 use Rattle.event.proofs.HostLaws.{host-in}
 use Rattle.central.specs.Mark.{idle, running, offered, committed, failed, turned-down, markNumber}
-use Rattle.guard.specs.Guard.{guard, holds, barred}
 use Rattle.site.specs.Row.{heardIn, heard, hear}
 use Rattle.site.specs.Verdict.{verdictNumber, verdictSite, refusalNumber, refusalSite}
 use Rattle.site.specs.Step.{Stepped, stepped, siteAt, stepInvalid, decide, stepOf}
 use Rattle.site.specs.declared.Verdict.{Verdict}
-use Rattle.simulation.specs.Simulation.{rowOf, withRow, Step, event, message, Reply, reply, stateFits, eventBy, happen, tell, markBy, markAt}
+use Rattle.site.proofs.StepLaws.{decide-site}
+use Rattle.simulation.specs.Simulation.{rowOf, withRow, event, Reply, reply, stateFits, eventBy, happen, tell, markBy, markAt}
 use Rattle.simulation.specs.Run.{Placed, markByte}
 
 -- row q of n bytes ends where the next begins
@@ -49,12 +48,6 @@ row-length p st q h l =
     let r = row-below (size p) q (size p) l in
     let d = length-drop (q * size p) st in
     omega (arith, length-take (size p) (drop (q * size p) st))
-
--- every verdict of `decide` names the event's site
-decided-site : (p : List ℕ) (code node : ℕ) (row : List ℕ) → verdictSite (decide p code node row .verdict) ≡ siteAt p code node
-unfolding decide verdictSite refusalSite
-decided-site p code node row = cases (decided (barred p (heard row) (eventOf code node))) (λ e. rw e)
-    (λ e. cases (decided (holds (heard row) (guard p (eventOf code node)))) (λ f. rw (e, f)) (λ f. rw (e, f)))
 
 -- THE EVENT HAPPENS
 module _ (p st : List ℕ) (code node : ℕ) where
@@ -81,7 +74,7 @@ module _ (p st : List ℕ) (code node : ℕ) where
     happens = cases (decided (eqb (stepInvalid p code node (rowOf p st q)) 0))
         (λ z. let n : invalid p (stateFits p (own p) st) true code node ≡ 0 = sym same-tests ∙ eqb-true _ 0 z in
         rw z (valid-happens n ∙ ap (λ k. reply (verdictNumber (decide p code node (rowOf p st q) .verdict)) k (withRow p st q (decide p code node (rowOf p st q) .row)))
-        (there ∙ sym (decided-site p code node (rowOf p st q)))))
+        (there ∙ sym (decide-site p code node (rowOf p st q)))))
         (λ z. rw z (happen-refused _ same-tests (eqb-false _ 0 z) ∙ ap (λ s. reply (stepInvalid p code node (rowOf p st q)) 0 s) (sym (with-same p st q))))
 
     pub happen-stepped : (row : List ℕ) (v : Verdict) → stepOf p code node (rowOf p st q) ≡ stepped row v →

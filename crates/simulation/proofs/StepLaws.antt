@@ -6,7 +6,6 @@ use mathlib.Core.List.{List}
 use Prim.Native.Nat.{ℕ, _*_, _<_}
 use lib.Dec.{eqb, ltb}
 use lib.ListN.{drop, length, length-drop, length-take}
-use lib.Seq.{set-getD}
 use borrow.Author.Tests.{eq-eqb, ne-eqb}
 use native.Mathlib.Omega.{arith}
 use Rattle.lists.proofs.Logic.{cases, and-right, parts, decided}
@@ -15,38 +14,18 @@ use Rattle.plan.specs.Check.{Accepted}
 use Rattle.plan.proofs.Main.{check-exact}
 use Rattle.event.specs.Event.{codeOf, isCode, at, eventOf, appliesBy, applies, known}
 use Rattle.event.specs.Site.{Layout, Housed, siteOf}
-use Rattle.event.specs.Bit.{hasBit, withBit}
 use Rattle.event.specs.Valid.{invalid}
-use Rattle.event.proofs.CodeLaws.{code-number}
-use Rattle.guard.specs.Guard.{guard, holds, barred}
-use Rattle.site.specs.Row.{heardIn, heard, hear}
-use Rattle.site.specs.Verdict.{refusalNumber, verdictNumber}
-use Rattle.site.specs.Step.{stepInvalid, decide, stepOf}
+use Rattle.guard.specs.Guard.{guard}
+use Rattle.site.specs.Row.{heard, hear}
+use Rattle.site.specs.Verdict.{verdictNumber}
+use Rattle.site.specs.Step.{stepInvalid, stepOf}
+use Rattle.site.proofs.RowLaws.{hear-again}
+use Rattle.site.proofs.StepLaws.{step-passes, step-leaves}
 use Rattle.runs.proofs.Net.{passes, relayed}
 use Rattle.runs.proofs.Full.{site-in}
 use Rattle.simulation.specs.Simulation.{rowOf, withRow, Step, event, message, stateFits, eventBy, happen, tell, simulate}
 use Rattle.simulation.proofs.CodeLaws.{row-below, with-same}
 use Rattle.simulation.proofs.View.{view}
-
--- a site's own step: it passes if the tests 1 to 9 do, the event is not barred, and its guard holds; then the event is set in the row
-module _ (p : List ℕ) (code node : ℕ) (row : List ℕ) where
-  abbrev Bar : Bool
-  Bar = barred p (heard row) (eventOf code node)
-
-  abbrev Hold : Bool
-  Hold = holds (heard row) (guard p (eventOf code node))
-
-  pub step-passes : eqb (verdictNumber (stepOf p code node row .verdict)) 0 ≡ (eqb (stepInvalid p code node row) 0 && (not Bar && Hold))
-  unfolding stepOf decide verdictNumber refusalNumber
-  step-passes = cases (decided (eqb (stepInvalid p code node row) 0))
-      (λ z. cases (decided Bar) (λ b. rw (z, b)) (λ b. cases (decided Hold) (λ h. rw (z, b, h)) (λ h. rw (z, b, h))))
-      (λ z. rw (z, z))
-
-  step-leaves : stepOf p code node row .row ≡ cond (eqb (verdictNumber (stepOf p code node row .verdict)) 0) (hear row code node) row
-  unfolding stepOf decide verdictNumber refusalNumber
-  step-leaves = cases (decided (eqb (stepInvalid p code node row) 0))
-      (λ z. cases (decided Bar) (λ b. rw (z, b)) (λ b. cases (decided Hold) (λ h. rw (z, b, h)) (λ h. rw (z, b, h))))
-      (λ z. rw (z, z))
 
 module _ (p : List ℕ) (lay : Layout) (st : List ℕ) (code node : ℕ) where
   abbrev here : List ℕ
@@ -90,13 +69,6 @@ pub refused-leaves : (p : List ℕ) (lay : Layout) (st : List ℕ) (t : Step) �
 unfolding simulate
 refused-leaves p lay st (event code node) h = happen-leaves p lay st code node ∙ rw (ne-eqb (happen p lay st code node .number) 0 h)
 refused-leaves p lay st (message code node q) h = tell-leaves p lay st code node q ∙ rw (ne-eqb (tell p lay st code node q .number) 0 h)
-
--- what is heard is not set again
-hear-again : (row : List ℕ) (code node : ℕ) → heard row (eventOf code node) ≡ true → hear row code node ≡ row
-unfolding heard heardIn hear withBit hasBit
-hear-again row code node h = cases (decided (isCode code))
-    (λ c. let b = rw (code-number code c) at h in rw b (set-getD row node 0))
-    (λ c. rw c (set-getD row node 0))
 
 -- a repeated message changes nothing
 pub repeat-leaves : (p : List ℕ) (lay : Layout) (st : List ℕ) (code node q : ℕ) → heard (rowOf p st q) (eventOf code node) ≡ true →
