@@ -68,7 +68,7 @@ unfolding codeNumber
 returns-9 c =
     let pre = c .before .before .before .before .before .before .pre in
     let arm = ⊎-elim (λ w. inl (w .taken)) (λ w. inr (w .1 .left)) (c .before .if3 .came) in
-    c .may-turn-down .ensures ∙ allowed-at _ _ _ _ _ (c .before .before .before .before .before .before .pre .1 .1) down (last-code _ (pre .1 .0 .0) (pre .1 .0 .1) (c .before .before .match .rest .1) arm)
+    c .may-turn-down .ensures ∙ allowed-at _ _ _ _ _ (pre .1 .1) down (last-code _ (pre .1 .0 .0) (pre .1 .0 .1) (c .before .before .match .rest .1) arm)
 
 pub allowed-spec : {M : Type 1} → statement M
 allowed-spec =
