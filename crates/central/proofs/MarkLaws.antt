@@ -76,43 +76,43 @@ same-at : (f g : Mark → Bool) → same f g ≡ true → (m : Mark) → f m ≡
 unfolding same
 same-at f g h m = beq-true (f m) (g m) (all-at (λ m. Bool·beq (f m) (g m)) (in-marks m) h)
 
--- the sets of src/lib.rt against the state
-module _ (bytes notes : List ℕ) where
-  read : (set : ℕ) (f : Mark → Bool) → same (inSet set) f ≡ true → markIn set bytes ≡ (λ v. f (stateOf bytes notes .mark v))
-  unfolding markIn stateOf
-  read set f h = fun-ext (λ v. same-at (inSet set) f h (markOf (getD bytes v 0)))
-
-  pub at-idle : (v : ℕ) → marked (stateOf bytes notes) idle v ≡ markIn 1 bytes v
-  unfolding same all marks inSet isMark markNumber
-  at-idle v = ap (λ f. f v) (sym (read 1 (isMark idle) refl))
-
-  pub at-running : (v : ℕ) → marked (stateOf bytes notes) running v ≡ markIn 2 bytes v
-  unfolding same all marks inSet isMark markNumber
-  at-running v = ap (λ f. f v) (sym (read 2 (isMark running) refl))
-
-  pub at-offered : (v : ℕ) → marked (stateOf bytes notes) offered v ≡ markIn 4 bytes v
-  unfolding same all marks inSet isMark markNumber
-  at-offered v = ap (λ f. f v) (sym (read 4 (isMark offered) refl))
-
-  pub in-committed : markIn 8 bytes ≡ marked (stateOf bytes notes) committed
-  unfolding same all marks inSet isMark markNumber
-  in-committed = read 8 (isMark committed) refl
-
-  pub in-failed : markIn 16 bytes ≡ marked (stateOf bytes notes) failed
-  unfolding same all marks inSet isMark markNumber
-  in-failed = read 16 (isMark failed) refl
-
-  pub in-ended : markIn 24 bytes ≡ (λ v. marked (stateOf bytes notes) committed v || marked (stateOf bytes notes) failed v)
-  unfolding same all marks inSet isMark markNumber
-  in-ended = read 24 (λ m. isMark committed m || isMark failed m) refl
-
-  pub in-settled : markIn 56 bytes ≡ (λ v. marked (stateOf bytes notes) committed v || marked (stateOf bytes notes) failed v || marked (stateOf bytes notes) turned-down v)
-  unfolding same all marks inSet isMark markNumber
-  in-settled = read 56 (λ m. isMark committed m || isMark failed m || isMark turned-down m) refl
+read : (bytes : List ℕ) (set : ℕ) (f : Mark → Bool) → same (inSet set) f ≡ true → markIn set bytes ≡ (λ v. f (markOf (getD bytes v 0)))
+unfolding markIn
+read bytes set f h = fun-ext (λ v. same-at (inSet set) f h (markOf (getD bytes v 0)))
 
 pub in-none : (bytes : List ℕ) → markIn 0 bytes ≡ (λ v. false)
-unfolding markIn same all marks inSet markNumber
-in-none bytes = fun-ext (λ v. same-at (inSet 0) (λ m. false) refl (markOf (getD bytes v 0)))
+unfolding same all marks inSet markNumber
+in-none bytes = read bytes 0 (λ m. false) refl
+
+-- the sets of src/lib.rt against the state
+module _ (bytes notes : List ℕ) where
+  pub at-idle : (v : ℕ) → marked (stateOf bytes notes) idle v ≡ markIn 1 bytes v
+  unfolding same all marks inSet isMark markNumber stateOf
+  at-idle v = ap (λ f. f v) (sym (read bytes 1 (isMark idle) refl))
+
+  pub at-running : (v : ℕ) → marked (stateOf bytes notes) running v ≡ markIn 2 bytes v
+  unfolding same all marks inSet isMark markNumber stateOf
+  at-running v = ap (λ f. f v) (sym (read bytes 2 (isMark running) refl))
+
+  pub at-offered : (v : ℕ) → marked (stateOf bytes notes) offered v ≡ markIn 4 bytes v
+  unfolding same all marks inSet isMark markNumber stateOf
+  at-offered v = ap (λ f. f v) (sym (read bytes 4 (isMark offered) refl))
+
+  pub in-committed : markIn 8 bytes ≡ marked (stateOf bytes notes) committed
+  unfolding same all marks inSet isMark markNumber stateOf
+  in-committed = read bytes 8 (isMark committed) refl
+
+  pub in-failed : markIn 16 bytes ≡ marked (stateOf bytes notes) failed
+  unfolding same all marks inSet isMark markNumber stateOf
+  in-failed = read bytes 16 (isMark failed) refl
+
+  pub in-ended : markIn 24 bytes ≡ (λ v. marked (stateOf bytes notes) committed v || marked (stateOf bytes notes) failed v)
+  unfolding same all marks inSet isMark markNumber stateOf
+  in-ended = read bytes 24 (λ m. isMark committed m || isMark failed m) refl
+
+  pub in-settled : markIn 56 bytes ≡ (λ v. marked (stateOf bytes notes) committed v || marked (stateOf bytes notes) failed v || marked (stateOf bytes notes) turned-down v)
+  unfolding same all marks inSet isMark markNumber stateOf
+  in-settled = read bytes 56 (λ m. isMark committed m || isMark failed m || isMark turned-down m) refl
 
 -- all other marks
 opposites : all (λ set. same (inSet (255 - set)) (λ m. not (inSet set m))) (upFrom 0 256) ≡ true
@@ -121,5 +121,6 @@ opposites = refl
 
 pub in-opposite : (bytes : List ℕ) (set : ℕ) → set < 256 → markIn (255 - set) bytes ≡ (λ v. not (markIn set bytes v))
 unfolding markIn
-in-opposite bytes set l = fun-ext (λ v. same-at (inSet (255 - set)) (λ m. not (inSet set m))
-    (all-at (λ set. same (inSet (255 - set)) (λ m. not (inSet set m))) (in-up 0 256 set (omega arith) l) opposites) (markOf (getD bytes v 0)))
+in-opposite bytes set l =
+    read bytes (255 - set) (λ m. not (inSet set m))
+    (all-at (λ set. same (inSet (255 - set)) (λ m. not (inSet set m))) (in-up 0 256 set (omega arith) l) opposites)

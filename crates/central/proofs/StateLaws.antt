@@ -123,14 +123,17 @@ yes-bit b = go (hasBit b (codeNumber answered-yes)) (hasBit b (codeNumber answer
 not-yes : (p marks notes : List ℕ) (v : ℕ) → allowedBy p (stateOf marks notes) answered-no v ≡ true → hasBit (getD notes v 0) (codeNumber answered-yes) ≡ false
 unfolding allowedBy stateOf
 not-yes p marks notes v h =
-    sym (yes-bit (getD notes v 0)) ∙ not-true _ (and-right (started (stateOf marks notes) v) _ (and-left (started (stateOf marks notes) v && not (isYes (answerOf (getD notes v 0)))) _ h))
+    let open-yet = and-left (started (stateOf marks notes) v && not (isYes (answerOf (getD notes v 0)))) _ h in
+    sym (yes-bit (getD notes v 0)) ∙ not-true _ (and-right (started (stateOf marks notes) v) _ open-yet)
 
 pub advance-exact : AdvanceExact
 unfolding allowed applies after stateOf
 advance-exact p marks notes e long long′ small h =
+    let c = e .code in
+    let v = e .node in
     let l = ltb-true (e .node) (size p) (and-left _ _ (and-left _ _ h)) in
     let can = and-right (applies p e) _ h in
     state-by _ _
-    (update-by _ _ _ _ (mark-here (e .node) marks (omega arith) (e .code)) (λ w q. ap markOf (mark-other (e .code) (e .node) marks w q)))
-    (update-by _ _ _ _ (answer-here (e .node) notes (omega arith) (small (e .node)) (e .code) (λ q. not-yes p marks notes (e .node) (rw q at can))) (λ w q. ap answerOf (note-other (e .code) (e .node) notes w q)))
-    (update-by _ _ _ _ (picked-here (e .node) notes (omega arith) (small (e .node)) (e .code)) (λ w q. ap (λ b. hasBit b (codeNumber pick)) (note-other (e .code) (e .node) notes w q)))
+    (update-by _ _ _ _ (mark-here v marks (omega arith) c) (λ w q. ap markOf (mark-other c v marks w q)))
+    (update-by _ _ _ _ (answer-here v notes (omega arith) (small v) c (λ q. not-yes p marks notes v (rw q at can))) (λ w q. ap answerOf (note-other c v notes w q)))
+    (update-by _ _ _ _ (picked-here v notes (omega arith) (small v) c) (λ w q. ap (λ b. hasBit b (codeNumber pick)) (note-other c v notes w q)))

@@ -66,9 +66,9 @@ returns-8 c = c .may-answer .ensures ∙ allowed-answer _ _ _ _ _ (c .before .be
 returns-9 : tie.Need-returns-9
 unfolding codeNumber
 returns-9 c =
-    let pre = c .before .before .before .before .before .before .pre in
-    let arm = ⊎-elim (λ w. inl (w .taken)) (λ w. inr (w .1 .left)) (c .before .if3 .came) in
-    c .may-turn-down .ensures ∙ allowed-at _ _ _ _ _ (c .before .before .before .before .before .before .pre .1 .1) down (last-code _ (pre .1 .0 .0) (pre .1 .0 .1) (c .before .before .match .rest .1) arm)
+    let pre = c .before .before .before .before .before .before .pre .1 in
+    rw (c .may-turn-down .ensures) (allowed-at _ _ _ _ _ (pre .1) down
+    (last-code _ (pre .0 .0) (pre .0 .1) (c .before .before .match .rest .1) (⊎-elim (λ w. inl (w .taken)) (λ w. inr (w .1 .left)) (c .before .if3 .came))))
 
 pub allowed-spec : {M : Type 1} → statement M
 allowed-spec =
