@@ -5,3 +5,4 @@ pub mod Short
 pub mod KinLaws
 pub mod RowLaws
 pub mod WriteLaws
+pub mod Cases
