@@ -5,3 +5,4 @@ pub mod Keep
 pub mod Below
 pub mod Table
 pub mod Lent
+pub mod PutLaws

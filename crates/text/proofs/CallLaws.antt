@@ -1,0 +1,66 @@
+-- What the answers of the public functions are, test by test. Assumes nothing.
+use mathlib.Core.Path.{_≡_, refl, sym, _∙_, ap}
+use mathlib.Core.Bool.{Bool, true, false, not, _&&_, and-false}
+use mathlib.Core.List.{List}
+use Prim.Native.Nat.{ℕ, _+_, _-_, _*_, _≤_, _<_}
+use native.Mathlib.Omega.{arith}
+use borrow.Author.Tests.{not-true, not-false, eq-eqb, ne-eqb, le-leb, lt-leb}
+use lib.Dec.{eqb, leb}
+use lib.ListN.{length, drop, length-drop}
+use Rattle.text.specs.Text.{lines, planLines, stepLines, isBar, barText, stepText, wellFormed}
+use Rattle.text.specs.Calls.{counted, malformed, countsOf}
+use Rattle.text.proofs.TextLaws.{rest, rest-is, bar-long, lines-fit}
+
+module _ (t : List ℕ) where
+  malformed-by : wellFormed t ≡ false → malformed ≡ countsOf t
+  unfolding countsOf
+  malformed-by h = rw h
+
+  pub counts-long : 32768 < length t → malformed ≡ countsOf t
+  unfolding wellFormed
+  counts-long l = malformed-by (rw (lt-leb (length t) 32768 l))
+
+-- n plan lines stand at the front of t
+module _ (t : List ℕ) (n : ℕ) (few : length t ≤ 32768) (plan : n ≡ length (lines 2 t)) where
+  pub plan-room : 5 * n ≤ length t
+  plan-room = omega (arith, plan, lines-fit 2 t)
+
+  pub counts-no-bar : {r : Bool} → r ≡ isBar (rest t (5 * n)) → not r ≡ true → malformed ≡ countsOf t
+  unfolding wellFormed barText planLines
+  counts-no-bar {r} e f = malformed-by t (rw (le-leb (length t) 32768 few, ← plan, ← rest-is t (5 * n), ← e, not-true r f))
+
+-- and the line `--` behind them
+pub record Parted (t : List ℕ) (n : ℕ) : Type 0 where
+  pub few : length t ≤ 32768
+  pub plan : n ≡ length (lines 2 t)
+  pub bar : isBar (drop (5 * n) t) ≡ true
+
+pub parted : {t : List ℕ} {n : ℕ} {r : Bool} → length t ≤ 32768 → n ≡ length (lines 2 t) → r ≡ isBar (rest t (5 * n)) → not r ≡ false → Parted t n
+parted {t} {n} {r} few plan e f = record { few = few; plan = plan; bar = ap isBar (sym (rest-is t (5 * n))) ∙ sym e ∙ not-false r f }
+
+module _ {t : List ℕ} {n : ℕ} (h : Parted t n) where
+  pub bar-room : 5 * n + 3 ≤ length t
+  bar-room = omega (arith, h .plan, lines-fit 2 t, bar-long (drop (5 * n) t) (h .bar), length-drop (5 * n) t)
+
+  module _ {m : ℕ} (e : m ≡ length (lines 3 (rest t (5 * n + 3)))) where
+    steps-are : m ≡ length (stepLines t)
+    unfolding stepLines stepText planLines
+    steps-are = e ∙ ap (λ s. length (lines 3 s)) (rest-is t (5 * n + 3) ∙ rw (h .plan))
+
+    long : length (stepText t) ≡ length t - (5 * n + 3)
+    unfolding stepText planLines
+    long = rw (← h .plan) (length-drop (5 * n + 3) t)
+
+    pub steps-room : 5 * n + 3 + 7 * m ≤ length t
+    steps-room = omega (arith, bar-room, e, lines-fit 3 (rest t (5 * n + 3)), ap length (rest-is t (5 * n + 3)), length-drop (5 * n + 3) t)
+
+    formed : wellFormed t ≡ eqb (length t - (5 * n + 3)) (7 * m)
+    unfolding wellFormed barText planLines
+    formed = rw (le-leb (length t) 32768 (h .few), ← h .plan, h .bar, long, ← steps-are)
+
+    pub counts-not : (length t - (5 * n + 3) ≡ 7 * m → ⊥) → malformed ≡ countsOf t
+    counts-not f = malformed-by t (formed ∙ ne-eqb (length t - (5 * n + 3)) (7 * m) f)
+
+    pub counts-done : length t - (5 * n + 3) ≡ 7 * m → counted n m ≡ countsOf t
+    unfolding countsOf planLines
+    counts-done f = rw (formed ∙ eq-eqb (length t - (5 * n + 3)) (7 * m) f, ← h .plan, ← steps-are)

@@ -1,0 +1,4 @@
+-- Laws that the proofs of other crates cite.
+pub mod HexLaws
+pub mod TextLaws
+pub mod CallLaws
