@@ -2,12 +2,14 @@
 use mathlib.Core.Path.{_≡_, refl, sym, ap, _∙_}
 use mathlib.Core.List.{List, [], _∷_, _++_, map}
 use Prim.Native.Nat.{ℕ, suc, _+_, _-_, _<_, _≤_}
-use native.Mathlib.Nat.{zero-add, add-zero, add-suc, suc-add}
+use native.Mathlib.Nat.{zero-add, add-zero, add-suc, suc-add, sub-eq-zero-of-le}
 use native.Mathlib.Numerals.{add-one}
 use native.Mathlib.Omega.{arith}
 use lib.ListN.{length, length-append, set, take, drop, getD}
 use lib.Seq.{sets, sets-eq, length-sets, drop-cons, take-at}
+use Rattle.lists.specs.Seq.{upFrom}
 use Rattle.lists.specs.Put.{Put}
+use Rattle.lists.proofs.Keep.{up-step}
 
 sets-append : (a b l : List ℕ) (i : ℕ) → sets l i (a ++ b) ≡ sets (sets l i a) (i + length a) b
 sets-append [] b l i = rw add-zero
@@ -54,6 +56,19 @@ left-put x rest {b = b} {w = w} {w′ = w′} h k =
       long = put-length k ∙ h .long;
     }
 
+-- the entries of f's table of n from i on
+abbrev pub tableFrom : (ℕ → ℕ) → ℕ → ℕ → List ℕ
+tableFrom f n i = map f (upFrom i (n - i))
+
 -- a turn at i
 pub drop-turn : (s : List ℕ) (i : ℕ) → i < length s → drop i s ≡ getD s i 0 ∷ drop (i + 1) s
 drop-turn s i l = drop-cons s i 0 l ∙ rw add-one
+
+-- a table, written entry by entry
+pub table-turn : (f : ℕ → ℕ) (n i : ℕ) {whole b₀ : List ℕ} {w₀ : ℕ} {b : List ℕ} {w : ℕ} → i < n → Left (tableFrom f n i) whole b₀ w₀ b w →
+    Left (tableFrom f n (i + 1)) whole b₀ w₀ (set b w (f i)) (w + 1)
+table-turn f n i {b = b} {w = w} l h = left-put (f i ∷ []) (tableFrom f n (i + 1)) (rw (up-step i n l) at h) (put-one (f i) b w)
+
+pub table-out : (f : ℕ → ℕ) (n i : ℕ) {whole b₀ : List ℕ} {w₀ : ℕ} {b : List ℕ} {w : ℕ} → n ≤ i → Left (tableFrom f n i) whole b₀ w₀ b w → Put whole b₀ w₀ b w
+unfolding upFrom
+table-out f n i l h = left-none (rw (sub-eq-zero-of-le l) at h)

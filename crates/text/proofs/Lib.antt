@@ -2,3 +2,5 @@
 pub mod HexLaws
 pub mod TextLaws
 pub mod CallLaws
+pub mod DecodeLaws
+pub mod PrintLaws

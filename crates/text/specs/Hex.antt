@@ -25,13 +25,12 @@ digitAt t i = isDigit (getD t i 0)
 unfoldable pub isLine : ℕ → List ℕ → Bool
 isLine k t = allBelow (digitAt t) (2 * k) && eqb (getD t (2 * k) 0) 10
 
--- the byte whose digits stand at i
-unfoldable pub byteAt : List ℕ → ℕ → ℕ
-byteAt t i = valueOf (getD t i 0) * 16 + valueOf (getD t (i + 1) 0)
+-- byte i of the line with which t begins, and its k bytes
+unfoldable pub lineByte : List ℕ → ℕ → ℕ
+lineByte t i = valueOf (getD t (2 * i) 0) * 16 + valueOf (getD t (2 * i + 1) 0)
 
--- the k bytes of the line with which t begins
 unfoldable pub lineBytes : ℕ → List ℕ → List ℕ
-lineBytes k t = table (λ i. byteAt t (2 * i)) k
+lineBytes k t = table (lineByte t) k
 
 -- the line of the bytes bs
 unfoldable pub hexLine : List ℕ → List ℕ

@@ -5,7 +5,7 @@ ghost use mathlib.Core.List.{flatten};
 ghost use Prim.Native.Nat.{_+_, _*_, _<_, _≤_};
 ghost use lib.ListN.{length};
 ghost use Rattle.lists.specs.Put.{Put};
-ghost use Rattle.text.specs.Hex.{isDigit, valueOf, digitOf, isLine, byteAt, lineBytes, hexLine};
+ghost use Rattle.text.specs.Hex.{isDigit, valueOf, digitOf, isLine, lineByte, lineBytes, hexLine};
 ghost use Rattle.text.specs.Text.{lines, isBar};
 ghost use Rattle.text.specs.Calls.{malformed, countsOf, inFront, readInto, reading, lineInto, printed};
 
@@ -118,4 +118,100 @@ fn count(text: &[u8]) -> Counts
         plan: n,
         steps: m,
     }
+}
+
+// Byte i of the line with which text begins.
+fn line_byte(text: &[u8], i: usize) -> u8
+    requires { ⌜ i < 3 ⌝ }
+    ensures { λ r. ⌜ r ≡ lineByte (now (text .entry)) i ⌝ }
+{
+    value(byte_at(text, 2 * i)) * 16 + value(byte_at(text, 2 * i + 1))
+}
+
+// Puts the k bytes of the line with which text begins into `out`, from `at` on.
+fn decode_line(text: &[u8], k: usize, out: &mut [u8], at: usize) -> usize
+    requires { ⌜ k ≤ 3 ⌝ }
+    requires { ⌜ at + k ≤ length (now out) ⌝ }
+    ensures { λ r. ⌜ Put (lineBytes k (now (text .entry))) (now (out .entry)) at (now (out .exit)) r ⌝ }
+{
+    let mut w = at;
+    let mut i = 0;
+    while i < k {
+        out[w] = line_byte(text, i);
+        w += 1;
+        i += 1;
+    }
+    w
+}
+
+// Puts the bytes of the n lines of k bytes with which text begins at the front of `out`, if there is room for them.
+fn decode(text: &[u8], k: usize, n: usize, out: &mut [u8])
+    requires { ⌜ k ≤ 3 ⌝ }
+    requires { ⌜ n ≡ length (lines k (now text)) ⌝ }
+    ensures { λ _. ⌜ now (out .exit) ≡ inFront (flatten (lines k (now (text .entry)))) (now (out .entry)) ⌝ }
+{
+    if out.len() < k * n {
+        return;
+    }
+    let mut at = 0;
+    let mut w = 0;
+    let mut i = 0;
+    while i < n {
+        w = decode_line(&text[at..], k, out, w);
+        at += 2 * k + 1;
+        i += 1;
+    }
+}
+
+// Reads a text: its numbers of lines, and the bytes of the plan and of the steps at the front of two buffers. A malformed text leaves both
+// buffers, and so does a buffer that is too short for its bytes, of which there are two a plan line and three a step line.
+pub fn read(text: &[u8], plan: &mut [u8], steps: &mut [u8]) -> Counts
+    ensures { λ r. ⌜ readInto (now (text .entry)) (now (plan .entry)) (now (steps .entry)) ≡ reading r (now (plan .exit)) (now (steps .exit)) ⌝ }
+{
+    let counts = count(text);
+    if !counts.ok {
+        return counts;
+    }
+    let n = counts.plan;
+    let m = counts.steps;
+    let from = 5 * n + 3;
+    decode(text, 2, n, plan);
+    decode(&text[from..], 3, m, steps);
+    counts
+}
+
+// Writes the line of these bytes from `at` on.
+fn write_line(bytes: &[u8], out: &mut [u8], at: usize) -> usize
+    requires { ⌜ at + 2 * length (now bytes) + 1 ≤ length (now out) ⌝ }
+    ensures { λ r. ⌜ Put (hexLine (now (bytes .entry))) (now (out .entry)) at (now (out .exit)) r ⌝ }
+{
+    let mut w = at;
+    let mut i = 0;
+    while i < bytes.len() {
+        let b = bytes[i];
+        out[w] = digit(b / 16);
+        out[w + 1] = digit(b % 16);
+        w += 2;
+        i += 1;
+    }
+    out[w] = 10;
+    w + 1
+}
+
+// Writes the line of these bytes from `at` on, and answers the place behind it; where there is no room for it, leaves `out` and answers `at`.
+pub fn put_line(bytes: &[u8], out: &mut [u8], at: usize) -> usize
+    ensures { λ r. ⌜ lineInto (now (bytes .entry)) (now (out .entry)) at ≡ printed r (now (out .exit)) ⌝ }
+{
+    if out.len() < at {
+        return at;
+    }
+    let room = out.len() - at;
+    let n = bytes.len();
+    if room <= n {
+        return at;
+    }
+    if room - n <= n {
+        return at;
+    }
+    write_line(bytes, out, at)
 }
