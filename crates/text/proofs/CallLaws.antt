@@ -1,14 +1,16 @@
 -- What the answers of the public functions are, test by test. Assumes nothing.
 use mathlib.Core.Path.{_≡_, refl, sym, _∙_, ap}
 use mathlib.Core.Bool.{Bool, true, false, not, _&&_, and-false}
-use mathlib.Core.List.{List}
+use mathlib.Core.List.{List, flatten}
 use Prim.Native.Nat.{ℕ, _+_, _-_, _*_, _≤_, _<_}
 use native.Mathlib.Omega.{arith}
 use borrow.Author.Tests.{not-true, not-false, eq-eqb, ne-eqb, le-leb, lt-leb}
 use lib.Dec.{eqb, leb}
 use lib.ListN.{length, drop, length-drop}
-use Rattle.text.specs.Text.{lines, planLines, stepLines, isBar, barText, stepText, wellFormed}
-use Rattle.text.specs.Calls.{counted, malformed, countsOf}
+use Rattle.lists.proofs.Logic.{cases, decided, and-left, and-right}
+use Rattle.text.specs.Text.{lines, planLines, stepLines, isBar, barText, stepText, wellFormed, planBytes, stepBytes}
+use Rattle.text.specs.Calls.{counted, malformed, countsOf, inFront, reading, readInto}
+use Rattle.text.specs.declared.Counts.{Counts}
 use Rattle.text.proofs.TextLaws.{rest, rest-is, bar-long, lines-fit}
 
 module _ (t : List ℕ) where
@@ -64,3 +66,44 @@ module _ {t : List ℕ} {n : ℕ} (h : Parted t n) where
     pub counts-done : length t - (5 * n + 3) ≡ 7 * m → counted n m ≡ countsOf t
     unfolding countsOf planLines
     counts-done f = rw (formed ∙ eq-eqb (length t - (5 * n + 3)) (7 * m) f, ← h .plan, ← steps-are)
+
+-- what the counts c of t tell
+module _ (t : List ℕ) (c : Counts) (e : c ≡ countsOf t) where
+  ok-is : c .ok ≡ wellFormed t
+  unfolding countsOf
+  ok-is = ap (λ (k : Counts). k .ok) e ∙ cases (decided (wellFormed t)) (λ f. rw f) (λ f. rw f)
+
+  pub read-not : (p s : List ℕ) → not (c .ok) ≡ true → readInto t p s ≡ reading c p s
+  unfolding readInto
+  read-not p s h = rw (sym ok-is ∙ not-true (c .ok) h, e)
+
+  module _ (h : not (c .ok) ≡ false) where
+    pub formed-is : wellFormed t ≡ true
+    formed-is = sym ok-is ∙ not-false (c .ok) h
+
+    counts-are : c ≡ counted (length (planLines t)) (length (stepLines t))
+    unfolding countsOf
+    counts-are = rw formed-is at e
+
+    pub told-plan : c .plan ≡ length (lines 2 t)
+    unfolding planLines
+    told-plan = ap (λ (k : Counts). k .plan) counts-are
+
+    step-text : rest t (5 * c .plan + 3) ≡ stepText t
+    unfolding stepText planLines
+    step-text = rest-is t (5 * c .plan + 3) ∙ ap (λ n. drop (5 * n + 3) t) told-plan
+
+    pub told-steps : c .steps ≡ length (lines 3 (rest t (5 * c .plan + 3)))
+    unfolding stepLines
+    told-steps = ap (λ (k : Counts). k .steps) counts-are ∙ ap (λ s. length (lines 3 s)) (sym step-text)
+
+    pub told-room : 5 * c .plan + 3 ≤ length t
+    unfolding wellFormed barText planLines
+    told-room =
+        let b = and-right (leb (length t) 32768) (isBar (barText t)) (and-left (leb (length t) 32768 && isBar (barText t)) (eqb (length (stepText t)) (7 * length (stepLines t))) formed-is) in
+        omega (arith, told-plan, lines-fit 2 t, bar-long (barText t) b, length-drop (5 * length (lines 2 t)) t)
+
+    pub read-done : (p s : List ℕ) {p′ s′ : List ℕ} → p′ ≡ inFront (flatten (lines 2 t)) p → s′ ≡ inFront (flatten (lines 3 (rest t (5 * c .plan + 3)))) s →
+        readInto t p s ≡ reading c p′ s′
+    unfolding readInto planBytes stepBytes planLines stepLines
+    read-done p s f g = rw (formed-is, f, g, step-text, e)
