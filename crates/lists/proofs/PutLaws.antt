@@ -5,8 +5,8 @@ use Prim.Native.Nat.{ℕ, suc, _+_, _-_, _<_, _≤_}
 use native.Mathlib.Nat.{zero-add, add-zero, add-suc, suc-add, sub-eq-zero-of-le}
 use native.Mathlib.Numerals.{add-one}
 use native.Mathlib.Omega.{arith}
-use lib.ListN.{length, length-append, set, take, drop, getD}
-use lib.Seq.{sets, sets-eq, length-sets, drop-cons, take-at}
+use lib.ListN.{length, length-append, set, drop, getD}
+use lib.Seq.{sets, sets-eq, length-sets, drop-cons}
 use Rattle.lists.specs.Seq.{upFrom}
 use Rattle.lists.specs.Put.{Put}
 use Rattle.lists.proofs.Keep.{up-step}

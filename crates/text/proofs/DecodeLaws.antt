@@ -7,7 +7,7 @@ use native.Mathlib.Nat.{sub-zero}
 use native.Mathlib.Omega.{arith}
 use borrow.Author.Tests.{le-leb, lt-leb}
 use lib.ListN.{length, getD, drop, set, length-append, length-drop, length-map}
-use lib.Seq.{sets, drop-drop}
+use lib.Seq.{drop-drop}
 use Rattle.lists.specs.Seq.{upFrom, table}
 use Rattle.lists.specs.Put.{Put}
 use Rattle.lists.proofs.Logic.{cases, decided}
@@ -16,7 +16,7 @@ use Rattle.lists.proofs.PutLaws.{Left, tableFrom, left-all, left-none, left-put
 use Rattle.text.specs.Hex.{valueOf, isLine, lineByte, lineBytes}
 use Rattle.text.specs.Text.{linesWithin, lines}
 use Rattle.text.specs.Calls.{inFront}
-use Rattle.text.proofs.HexLaws.{line-long, value-small}
+use Rattle.text.proofs.HexLaws.{line-long}
 use Rattle.text.proofs.TextLaws.{rest, rest-is, lines-none, lines-some, lines-fit}
 
 -- two digits make a byte: a and b stand there, x and y are their values
@@ -102,8 +102,15 @@ module _ {k : ℕ} {t : List ℕ} {n : ℕ} {b₀ : List ℕ} {at : ℕ} {b : Li
 
     pub lines-room : k * n ≤ length b₀ → w + k ≤ length b
     lines-room r =
-        omega (arith, r, front .place, front .long, whole k t n (h .total), line-length k (drop at t),
-        length-append (lineBytes k (drop at t)) (flatten (lines k (drop (at + (2 * k + 1)) t))))
+        omega (
+          arith,
+          r,
+          front .place,
+          front .long,
+          whole k t n (h .total),
+          line-length k (drop at t),
+          length-append (lineBytes k (drop at t)) (flatten (lines k (drop (at + (2 * k + 1)) t))),
+        )
 
     pub lines-turn : {b′ : List ℕ} {w′ : ℕ} → Put (lineBytes k (rest t at)) b w b′ w′ → LinesLeft k t n b₀ (at + (2 * k + 1)) b′ w′ (i + 1)
     lines-turn p =

@@ -4,3 +4,7 @@ pub mod TextLaws
 pub mod CallLaws
 pub mod DecodeLaws
 pub mod PrintLaws
+pub mod Written
+pub mod ReadBack
+pub mod Main
+pub mod Cases

@@ -1,15 +1,14 @@
 -- Laws of the lines with which a text begins. Assumes nothing.
 use mathlib.Core.Path.{_≡_, refl, sym, _∙_, ap}
 use mathlib.Core.Bool.{Bool, true, false, not, _&&_, and-false}
-use mathlib.Core.List.{List, [], _∷_, _++_, flatten}
-use Prim.Native.Nat.{ℕ, zero, suc, _+_, _-_, _*_, _≤_, _<_}
+use mathlib.Core.List.{List, [], _∷_}
+use Prim.Native.Nat.{ℕ, zero, suc, _+_, _-_, _*_, _≤_}
 use native.Mathlib.Omega.{arith}
 use borrow.Author.Tests.{not-true, not-false, eq-eqb, ne-eqb, eqb-true, leb-true, leb-false}
 use lib.Dec.{eqb, leb}
-use lib.ListN.{length, getD, take, drop, length-append, length-drop, drop-of-length-le, List·getD-eq-default}
+use lib.ListN.{length, getD, take, drop, length-drop, drop-of-length-le, List·getD-eq-default}
 use lib.Seq.{drop-drop, take-all}
 use Rattle.lists.proofs.Logic.{cases, decided, and-right}
-use Rattle.lists.proofs.Table.{table-length}
 use Rattle.text.specs.Hex.{isLine, lineBytes}
 use Rattle.text.specs.Text.{linesWithin, lines, isBar}
 use Rattle.text.proofs.HexLaws.{line-long}
@@ -58,7 +57,7 @@ module _ (k : ℕ) (t : List ℕ) where
   lines-some h =
       within-enough (length t) (suc (length t)) k t (omega arith) (omega arith) ∙ within-some (length t) k t h
       ∙ ap (λ ls. lineBytes k t ∷ ls)
-        (within-enough (length t) (length (drop (2 * k + 1) t)) k (drop (2 * k + 1) t) (omega (arith, length-drop (2 * k + 1) t)) (omega arith))
+      (within-enough (length t) (length (drop (2 * k + 1) t)) k (drop (2 * k + 1) t) (omega (arith, length-drop (2 * k + 1) t)) (omega arith))
 
 -- counting them: n lines stand before `at`
 pub record Counted (k : ℕ) (t : List ℕ) (at n : ℕ) : Type 0 where

@@ -2,10 +2,10 @@
 use mathlib.Core.Path.{_≡_}
 use mathlib.Core.Bool.{Bool, true, cond, _&&_}
 use mathlib.Core.List.{List, [], _∷_, _++_, flatMap, flatten}
-use Prim.Native.Nat.{ℕ, zero, suc, _+_, _*_, _≤_, _<_}
-use lib.Dec.{eqb, leb}
+use Prim.Native.Nat.{ℕ, zero, suc, _+_, _*_, _≤_}
+use lib.Dec.{eqb, leb, ltb}
 use lib.ListN.{length, getD, drop}
-use Rattle.lists.specs.Member.{In}
+use Rattle.lists.specs.Seq.{all}
 use Rattle.text.specs.Hex.{isLine, lineBytes, hexLine}
 
 -- J1: the lines of k bytes with which t begins, as bytes, n at most; and all of them
@@ -47,13 +47,16 @@ stepBytes t = flatten (stepLines t)
 unfoldable pub textOf : List (List ℕ) → List (List ℕ) → List ℕ
 textOf ps ss = flatMap hexLine ps ++ (45 ∷ 45 ∷ 10 ∷ flatMap hexLine ss)
 
--- lines of k bytes
-pub record Lines (k : ℕ) (ls : List (List ℕ)) : Type 0 where
-  pub long : (l : List ℕ) → In l ls → length l ≡ k
-  pub small : (l : List ℕ) → In l ls → (b : ℕ) → In b l → b < 256
+-- lines of k bytes each
+unfoldable pub isBytes : ℕ → List ℕ → Bool
+isBytes k bs = eqb (length bs) k && all (λ b. ltb b 256) bs
 
--- MAIN CLAIM. A text is well-formed if and only if it is the text of some plan and step lines and not too long, and these lines are what is read.
+unfoldable pub areLines : ℕ → List (List ℕ) → Bool
+areLines k ls = all (isBytes k) ls
+
+-- MAIN CLAIM. A text is well-formed if and only if it is the text of some plan lines and step lines, and not too long; these lines are what is read.
 pub record TextExact : Type 0 where
-  pub written : (t : List ℕ) → wellFormed t ≡ true → (Lines 2 (planLines t)) × (Lines 3 (stepLines t)) × (textOf (planLines t) (stepLines t) ≡ t)
-  pub read : (ps ss : List (List ℕ)) → Lines 2 ps → Lines 3 ss → length (textOf ps ss) ≤ 32768 →
+  pub written : (t : List ℕ) → wellFormed t ≡ true →
+      (areLines 2 (planLines t) ≡ true) × (areLines 3 (stepLines t) ≡ true) × (textOf (planLines t) (stepLines t) ≡ t) × (length t ≤ 32768)
+  pub read : (ps ss : List (List ℕ)) → areLines 2 ps ≡ true → areLines 3 ss ≡ true → length (textOf ps ss) ≤ 32768 →
       (wellFormed (textOf ps ss) ≡ true) × (planLines (textOf ps ss) ≡ ps) × (stepLines (textOf ps ss) ≡ ss)

@@ -8,7 +8,6 @@ ghost use Rattle.lists.specs.Put.{Put};
 ghost use Rattle.text.specs.Hex.{isDigit, valueOf, digitOf, isLine, lineByte, lineBytes, hexLine};
 ghost use Rattle.text.specs.Text.{lines, isBar};
 ghost use Rattle.text.specs.Calls.{malformed, countsOf, inFront, readInto, reading, lineInto, printed};
-
 use plan::byte_at;
 
 // Whether a text is well-formed, and its numbers of plan lines and step lines.
@@ -21,7 +20,11 @@ pub struct Counts {
 fn is_digit(b: u8) -> bool
     ensures { λ r. ⌜ r ≡ isDigit b ⌝ }
 {
-    if b <= 57 { 48 <= b } else { 97 <= b && b <= 102 }
+    if b <= 57 {
+        48 <= b
+    } else {
+        97 <= b && b <= 102
+    }
 }
 
 fn value(b: u8) -> u8

@@ -1,18 +1,12 @@
 -- The tests of a well-formed text, in their order. Assumes nothing.
-use mathlib.Core.Path.{_≡_, _∙_}
+use mathlib.Core.Path.{_∙_}
 use Prim.Native.Nat.{_*_, _≤_}
 use native.Mathlib.Omega.{arith}
 use lib.ListN.{length}
 use borrow.Author.Needs.{needs}
-use Rattle.text.specs.Text.{lines}
 use Rattle.text.proofs.CallLaws.{counts-long, plan-room, counts-no-bar, Parted, parted, bar-room, steps-room, counts-not, counts-done}
 use Rattle.text.proofs.count.Statement.{statement}
 use Rattle.text.proofs.count.Tie as tie
-use Rattle.text.proofs.count.Reads as reads
-use Rattle.text.proofs.count.Lts as lts
-use Rattle.text.proofs.count_lines.Reads as count-lines-reads
-use Rattle.text.proofs.is_bar.Reads as is-bar-reads
-use Rattle.text.proofs.malformed.Reads as malformed-reads
 
 -- the plan lines end in the text
 plan-in : (c : tie.After-count-lines) → 5 * c .count-lines .result ≤ length (c .before .before .before .args .text .now)

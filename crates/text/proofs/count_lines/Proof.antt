@@ -6,9 +6,6 @@ use borrow.Author.Needs.{needs}
 use Rattle.text.proofs.TextLaws.{Counted, count-none, count-out, count-stop, count-more}
 use Rattle.text.proofs.count_lines.Statement.{statement}
 use Rattle.text.proofs.count_lines.Tie as tie
-use Rattle.text.proofs.count_lines.Reads as reads
-use Rattle.text.proofs.count_lines.Lts as lts
-use Rattle.text.proofs.is_line.Reads as is-line-reads
 
 abbrev Inv-loop : tie.InvT-loop
 Inv-loop text k at₀ n₀ at n = Counted k text at n

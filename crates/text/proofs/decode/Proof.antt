@@ -1,15 +1,10 @@
 -- The lines that are left in the text give, from w on, what all of them give from the front. Assumes nothing.
-use mathlib.Core.Path.{_∙_}
-use Prim.Native.Nat.{_-_, _*_, _+_, _≤_}
+use Prim.Native.Nat.{_-_}
 use native.Mathlib.Omega.{arith}
-use lib.ListN.{length}
 use borrow.Author.Needs.{needs}
 use Rattle.text.proofs.DecodeLaws.{lines-few, lines-short, LinesLeft, lines-all, next-room, lines-room, lines-turn, lines-done}
 use Rattle.text.proofs.decode.Statement.{statement}
 use Rattle.text.proofs.decode.Tie as tie
-use Rattle.text.proofs.decode.Reads as reads
-use Rattle.text.proofs.decode.Lts as lts
-use Rattle.text.proofs.decode_line.Reads as decode-line-reads
 
 abbrev Inv-loop : tie.InvT-loop
 Inv-loop text k n out₀ at₀ w₀ i₀ out at w i = LinesLeft k text n out₀ at out w i

@@ -1,14 +1,10 @@
 -- The bytes that are left of the line give, from w on, what the whole line gives. Assumes nothing.
-use mathlib.Core.Path.{_∙_}
 use Prim.Native.Nat.{_-_}
 use native.Mathlib.Omega.{arith}
 use borrow.Author.Needs.{needs}
 use Rattle.text.proofs.DecodeLaws.{LineLeft, line-all, line-place, line-turn, line-done}
 use Rattle.text.proofs.decode_line.Statement.{statement}
 use Rattle.text.proofs.decode_line.Tie as tie
-use Rattle.text.proofs.decode_line.Reads as reads
-use Rattle.text.proofs.decode_line.Lts as lts
-use Rattle.text.proofs.line_byte.Reads as line-byte-reads
 
 abbrev Inv-loop : tie.InvT-loop
 Inv-loop text k out₀ at w₀ i₀ out w i = LineLeft k text out₀ w₀ out w i

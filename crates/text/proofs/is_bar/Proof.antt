@@ -1,8 +1,5 @@
 -- The definition, byte by byte. Assumes nothing.
-use mathlib.Core.Path.{sym, _∙_}
 use borrow.Author.Needs.{needs}
-use borrow.Author.Tests.{eq-eqb, ne-eqb}
-use Rattle.text.specs.Text.{isBar}
 use Rattle.text.proofs.TextLaws.{bar-1, bar-2, bar-3}
 use Rattle.text.proofs.is_bar.Statement.{statement}
 use Rattle.text.proofs.is_bar.Tie as tie

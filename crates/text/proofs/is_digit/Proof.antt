@@ -1,5 +1,4 @@
 -- The tests, on either side of 57. Assumes nothing.
-use mathlib.Core.Path.{_∙_}
 use borrow.Author.Tests.{le-leb, lt-leb}
 use Rattle.text.proofs.HexLaws.{digit-low, digit-high}
 use Rattle.text.proofs.is_digit.Statement.{statement}

@@ -8,9 +8,6 @@ use Rattle.text.specs.Hex.{isDigit}
 use Rattle.text.proofs.HexLaws.{digit-not, low-least, low-value, high-least, high-value}
 use Rattle.text.proofs.value.Statement.{statement}
 use Rattle.text.proofs.value.Tie as tie
-use Rattle.text.proofs.value.Lts as lts
-use Rattle.text.proofs.value.Reads as reads
-use Rattle.text.proofs.is_digit.Reads as is-digit-reads
 
 is-digit-requires : tie.Need-is-digit-requires
 is-digit-requires c κs = search needs

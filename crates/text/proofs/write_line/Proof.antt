@@ -1,16 +1,11 @@
 -- The bytes that are left give, from w on, what the whole line gives. Assumes nothing.
-use mathlib.Core.Path.{_∙_}
 use Prim.Native.Nat.{_-_}
-use native.Mathlib.Nat.{mod-lt}
 use native.Mathlib.Omega.{arith}
 use lib.ListN.{length, length-set}
 use borrow.Author.Needs.{needs}
 use Rattle.text.proofs.PrintLaws.{HexLeft, hex-all, hex-place, hex-turn, hex-done}
 use Rattle.text.proofs.write_line.Statement.{statement}
 use Rattle.text.proofs.write_line.Tie as tie
-use Rattle.text.proofs.write_line.Reads as reads
-use Rattle.text.proofs.write_line.Lts as lts
-use Rattle.text.proofs.digit.Reads as digit-reads
 
 abbrev Inv-loop : tie.InvT-loop
 Inv-loop bytes out₀ at w₀ i₀ out w i = HexLeft bytes out₀ w₀ out w i
