@@ -1,6 +1,6 @@
 -- Laws of digits and of a line. Assumes nothing.
 use mathlib.Core.Path.{_≡_, sym, _∙_, ap}
-use mathlib.Core.Bool.{Bool, true, false, _&&_, not, and-true, or-false}
+use mathlib.Core.Bool.{Bool, true, false, not, and-true, and-false, or-false}
 use mathlib.Core.List.{List}
 use Prim.Native.Nat.{ℕ, _+_, _-_, _*_, _≤_, _<_}
 use native.Mathlib.Omega.{arith}
@@ -8,18 +8,22 @@ use borrow.Author.Tests.{leb-true, leb-false, le-leb, lt-leb, eqb-true, not-true
 use lib.Dec.{eqb, leb}
 use lib.ListN.{length, getD, List·getD-eq-default}
 use Rattle.lists.specs.Seq.{allBelow}
-use Rattle.lists.proofs.Logic.{cases, decided, both, and-left, and-right}
+use Rattle.lists.proofs.Logic.{cases, decided, clash, and-left, and-right}
 use Rattle.lists.proofs.Below.{below-more, below-stop, below-end}
 use Rattle.text.specs.Hex.{isDigit, valueOf, digitAt, isLine}
 
--- a byte up to 57, and one above
+-- a byte up to 57, between the digits and the letters, from 97 on
 pub digit-low : (b : ℕ) → b ≤ 57 → leb 48 b ≡ isDigit b
 unfolding isDigit
 digit-low b l = rw (le-leb b 57 l, lt-leb 97 b (omega arith), and-true, or-false)
 
-pub digit-high : (b : ℕ) → 57 < b → (leb 97 b && leb b 102) ≡ isDigit b
+pub digit-between : (b : ℕ) → 57 < b → b < 97 → false ≡ isDigit b
 unfolding isDigit
-digit-high b l = rw (le-leb 48 b (omega arith), lt-leb b 57 l)
+digit-between b l m = rw (lt-leb b 57 l, lt-leb 97 b m, and-false)
+
+pub digit-letter : (b : ℕ) → 97 ≤ b → leb b 102 ≡ isDigit b
+unfolding isDigit
+digit-letter b l = rw (le-leb 48 b (omega arith), lt-leb b 57 (omega arith), le-leb 97 b l)
 
 pub digit-not : (b : ℕ) → isDigit b ≡ false → 0 ≡ valueOf b
 unfolding valueOf
@@ -34,14 +38,11 @@ module _ (b : ℕ) (h : isDigit b ≡ true) where
   unfolding valueOf
   low-value l = rw (h, le-leb b 57 l)
 
-  high : 57 < b → (leb 97 b ≡ true) × (leb b 102 ≡ true)
-  high l = both (leb 97 b) (leb b 102) .0 (digit-high b l ∙ h)
-
   pub high-least : 57 < b → 97 ≤ b
-  high-least l = leb-true 97 b (high l .0)
+  high-least l = cases (decided (leb 97 b)) (λ e. leb-true 97 b e) (λ e. clash (isDigit b) h (sym (digit-between b l (leb-false 97 b e))))
 
   pub high-most : 57 < b → b ≤ 102
-  high-most l = leb-true b 102 (high l .1)
+  high-most l = leb-true b 102 (digit-letter b (high-least l) ∙ h)
 
   pub high-value : 57 < b → b - 87 ≡ valueOf b
   unfolding valueOf

@@ -20,7 +20,7 @@ malformed-requires : tie.Need-malformed-requires
 malformed-requires c κs = search needs
 
 returns : tie.Need-returns
-returns c = c .malformed .ensures ∙ counts-long _ (c .before .if1 .taken)
+returns c = c .malformed .ensures ∙ counts-long _ (omega arith)
 
 count-lines-requires : tie.Need-count-lines-requires
 count-lines-requires c κs = search needs
@@ -29,7 +29,7 @@ mul-at : tie.Need-mul-at
 mul-at c = omega (arith, plan-in c)
 
 sub-is-bar : tie.Need-sub-is-bar
-sub-is-bar c = plan-in c
+sub-is-bar c = omega (arith, plan-in c)
 
 part-is-bar-start : tie.Need-part-is-bar-start
 part-is-bar-start c = omega (arith, plan-in c)
@@ -52,7 +52,7 @@ add-from : tie.Need-add-from
 add-from c = omega (arith, bar-room (split c))
 
 sub-count-lines : tie.Need-sub-count-lines
-sub-count-lines c = bar-room (split c)
+sub-count-lines c = omega (arith, bar-room (split c))
 
 part-count-lines-start : tie.Need-part-count-lines-start
 part-count-lines-start c = omega (arith, bar-room (split c))
@@ -64,7 +64,7 @@ count-lines-requires-2 : tie.Need-count-lines-requires-2
 count-lines-requires-2 c κs = search needs
 
 sub-if3 : tie.Need-sub-if3
-sub-if3 c = bar-room (split (c .before .before))
+sub-if3 c = omega (arith, bar-room (split (c .before .before)))
 
 mul-if3 : tie.Need-mul-if3
 mul-if3 c = omega (arith, steps-room (split (c .before .before)) (c .count-lines2 .ensures))
@@ -73,10 +73,10 @@ malformed-requires-3 : tie.Need-malformed-requires-3
 malformed-requires-3 c κs = search needs
 
 returns-3 : tie.Need-returns-3
-returns-3 c = c .malformed3 .ensures ∙ counts-not (split (c .before .before .before .before)) (c .before .before .count-lines2 .ensures) (c .before .if3 .taken)
+returns-3 c = c .malformed3 .ensures ∙ counts-not (split (c .before .before .before .before)) (c .before .before .count-lines2 .ensures) (λ e. omega arith)
 
 returns-4 : tie.Need-returns-4
-returns-4 c = counts-done (split (c .before .before .before)) (c .before .count-lines2 .ensures) (c .if3 .left)
+returns-4 c = counts-done (split (c .before .before .before)) (c .before .count-lines2 .ensures) (omega arith)
 
 pub count-spec : {M : Type 1} → statement M
 count-spec =

@@ -27,7 +27,7 @@ decode-requires : tie.Need-decode-requires
 decode-requires c κs = (search needs, told-plan _ _ (c .before .before .before .count .ensures) (c .before .if1 .left))
 
 sub-decode : tie.Need-sub-decode
-sub-decode c = room (c .before .before .before .before)
+sub-decode c = omega (arith, room (c .before .before .before .before))
 
 part-decode-start : tie.Need-part-decode-start
 part-decode-start c = omega (arith, room (c .before .before .before .before))
