@@ -10,3 +10,4 @@ pub mod Filling
 pub mod Between
 pub mod Points
 pub mod Search
+pub mod PutLaws
