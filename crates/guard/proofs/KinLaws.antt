@@ -22,9 +22,10 @@ use Rattle.event.specs.Event.{Code, start, offer, commit, abort, answered-yes, 
 use Rattle.event.proofs.CodeLaws.{code-down}
 use Rattle.guard.specs.Guard.{one, anyOf, isFirst, beforeIn, finishing, aborting, guardBy, guard}
 use Rattle.guard.specs.Bytes.{encode}
-use Rattle.guard.specs.Put.{Put}
+use Rattle.lists.specs.Put.{Put}
 use Rattle.guard.specs.Row.{isKin, kin, rowBy}
-use Rattle.guard.proofs.PutLaws.{Left, left-all, left-same, left-none, drop-turn, drop-out}
+use Rattle.lists.proofs.PutLaws.{Left, left-all, left-none, drop-turn}
+use Rattle.guard.proofs.PutLaws.{left-same, drop-out}
 use Rattle.guard.proofs.Short.{few-children}
 
 pub last-at : (d : ℕ) (cs : List ℕ) (n : ℕ) → length cs ≡ suc n → lastOr d cs ≡ getD cs n 0

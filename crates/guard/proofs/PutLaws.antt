@@ -1,17 +1,15 @@
--- Laws of writing: a loop's invariant is that what is left to write gives what the whole gives. Assumes nothing.
+-- Laws of writing clauses and guards, a turn of a loop at a time. Assumes nothing.
 use mathlib.Core.Path.{_≡_, refl, sym, ap, _∙_}
 use mathlib.Core.List.{List, [], _∷_, _++_}
 use Prim.Native.Nat.{ℕ, zero, suc, _+_, _<_, _≤_}
-use native.Mathlib.Nat.{zero-add, add-zero, add-suc, suc-add}
+use native.Mathlib.Nat.{zero-add}
 use native.Mathlib.Numerals.{add-one}
 use native.Mathlib.Omega.{arith}
-use lib.ListN.{length, length-append, length-set, set, take, drop, getD}
-use lib.Seq.{sets, sets-eq, length-sets, drop-cons, take-at}
-use Rattle.guard.specs.Put.{Put, pairs, anyPairs, clause, eachClause, anyClause, eachBytes}
-
-sets-append : (a b l : List ℕ) (i : ℕ) → sets l i (a ++ b) ≡ sets (sets l i a) (i + length a) b
-sets-append [] b l i = rw add-zero
-sets-append (x ∷ a) b l i = sets-append a b (set l i x) (suc i) ∙ rw (suc-add, add-suc)
+use lib.ListN.{length, set, take, drop, getD}
+use lib.Seq.{sets-eq, length-sets, take-at}
+use Rattle.lists.specs.Put.{Put}
+use Rattle.lists.proofs.PutLaws.{put-two, Left, left-none, left-put, drop-turn}
+use Rattle.guard.specs.Put.{pairs, anyPairs, clause, eachClause, anyClause, eachBytes}
 
 -- the same bytes, under another name
 pub put-as : {x y b : List ℕ} {w : ℕ} {b′ : List ℕ} {w′ : ℕ} → y ≡ x → Put x b w b′ w′ → Put y b w b′ w′
@@ -21,43 +19,10 @@ put-as e h = rw e h
 pub put-first : {a : ℕ} {x b : List ℕ} {w : ℕ} {b′ : List ℕ} {w′ : ℕ} → Put x (set b w a) (w + 1) b′ w′ → Put (a ∷ x) b w b′ w′
 put-first h = record { place = omega (arith, h .place); held = h .held ∙ rw add-one }
 
-put-two : (a c : ℕ) (b : List ℕ) (w : ℕ) → Put (a ∷ c ∷ []) b w (set (set b w a) (w + 1) c) (w + 2)
-put-two a c b w = record { place = omega arith; held = rw add-one }
-
-pub put-append : (x y b : List ℕ) (w : ℕ) {b′ : List ℕ} {w′ : ℕ} {b″ : List ℕ} {w″ : ℕ} → Put x b w b′ w′ → Put y b′ w′ b″ w″ → Put (x ++ y) b w b″ w″
-put-append x y b w {w′ = w′} h k =
-    record {
-      place = omega (arith, h .place, k .place, length-append x y);
-      held = k .held ∙ ap (λ l. sets l w′ y) (h .held) ∙ ap (λ n. sets (sets b w x) n y) (h .place) ∙ sym (sets-append x y b w);
-    }
-
--- a loop has written the whole up to `rest`: b₀ and w₀ as it began, b and w now
-pub record Left (rest whole b₀ : List ℕ) (w₀ : ℕ) (b : List ℕ) (w : ℕ) : Type 0 where
-  pub place : w + length rest ≡ w₀ + length whole
-  pub held : sets b w rest ≡ sets b₀ w₀ whole
-  pub long : length b ≡ length b₀
-
-pub left-all : (x b : List ℕ) (w : ℕ) → Left x x b w b w
-left-all x b w = record { place = refl; held = refl; long = refl }
-
 pub left-same : {x y whole b₀ : List ℕ} {w₀ : ℕ} {b : List ℕ} {w : ℕ} → x ≡ y → Left x whole b₀ w₀ b w → Left y whole b₀ w₀ b w
 left-same e h = rw (← e) h
 
-pub left-none : {whole b₀ : List ℕ} {w₀ : ℕ} {b : List ℕ} {w : ℕ} → Left [] whole b₀ w₀ b w → Put whole b₀ w₀ b w
-left-none h = record { place = omega (arith, h .place); held = h .held }
-
-left-put : (x rest : List ℕ) {whole b₀ : List ℕ} {w₀ : ℕ} {b : List ℕ} {w : ℕ} {b′ : List ℕ} {w′ : ℕ} → Left (x ++ rest) whole b₀ w₀ b w → Put x b w b′ w′ → Left rest whole b₀ w₀ b′ w′
-left-put x rest {b = b} {w = w} {w′ = w′} h k =
-    record {
-      place = omega (arith, h .place, k .place, length-append x rest);
-      held = ap (λ l. sets l w′ rest) (k .held) ∙ ap (λ n. sets (sets b w x) n rest) (k .place) ∙ sym (sets-append x rest b w) ∙ h .held;
-      long = ap length (k .held) ∙ length-sets b w x ∙ h .long;
-    }
-
--- a turn at i, and the end
-pub drop-turn : (s : List ℕ) (i : ℕ) → i < length s → drop i s ≡ getD s i 0 ∷ drop (i + 1) s
-drop-turn s i l = drop-cons s i 0 l ∙ rw add-one
-
+-- past the end nothing is left
 pub drop-out : (s : List ℕ) (i : ℕ) → length s ≤ i → drop i s ≡ []
 drop-out [] zero l = refl
 drop-out [] (suc i) l = refl

@@ -15,7 +15,7 @@ use Rattle.event.specs.Valid.{invalid, Valid}
 use Rattle.event.proofs.ValidLaws.{valid}
 use Rattle.guard.specs.Guard.{guard}
 use Rattle.guard.specs.Bytes.{encode}
-use Rattle.guard.specs.Put.{Put}
+use Rattle.lists.specs.Put.{Put}
 use Rattle.guard.specs.Written.{Filled, filled, fitted, writeOf}
 use Rattle.guard.specs.declared.Written.{Written}
 use Rattle.guard.specs.declared.Written.the-variants.{Done, Refused}

@@ -1,14 +1,7 @@
 -- What the writers of clauses leave in a buffer; only private functions' contracts cite it. Definitions only.
-use mathlib.Core.Path.{_≡_}
 use mathlib.Core.List.{List, [], _∷_, _++_}
 use Prim.Native.Nat.{ℕ, _+_, _≤_}
 use lib.ListN.{length}
-use lib.Seq.{sets}
-
--- x was written into b from w on, and nothing else: b′ is what is left, w′ the place behind x
-pub record Put (x b : List ℕ) (w : ℕ) (b′ : List ℕ) (w′ : ℕ) : Type 0 where
-  pub place : w′ ≡ w + length x
-  pub held : b′ ≡ sets b w x
 
 -- few nodes, and room for a longest guard: 1 + 32 * 7 + 1 + 32 * 2 bytes
 pub record Room (cs b : List ℕ) : Type 0 where

@@ -8,7 +8,8 @@ ghost use Rattle.plan.specs.Check.{Accepted};
 ghost use Rattle.event.specs.Event.{codeOf, eventOf};
 ghost use Rattle.guard.specs.Guard.{beforeIn, startBy, finishBy, abortBy, guard};
 ghost use Rattle.guard.specs.Bytes.{encode};
-ghost use Rattle.guard.specs.Put.{Put, Room};
+ghost use Rattle.lists.specs.Put.{Put};
+ghost use Rattle.guard.specs.Put.{Room};
 ghost use Rattle.guard.specs.Row.{kin, rowBy};
 
 // The children of u but `skip`, at the front of cs, and how many they are. The root is nobody's child, so 0 leaves none out.

@@ -2,7 +2,8 @@
 ghost use mathlib.Core.Path.{_≡_};
 ghost use Prim.Native.Nat.{_+_, _≤_};
 ghost use lib.ListN.{length};
-ghost use Rattle.guard.specs.Put.{Put, Room, clause, oneBytes, eachBytes, eachAnyBytes};
+ghost use Rattle.lists.specs.Put.{Put};
+ghost use Rattle.guard.specs.Put.{Room, clause, oneBytes, eachBytes, eachAnyBytes};
 
 // The clause [codes of c].
 fn put_clause(codes: &[u8], c: u8, buf: &mut [u8], at: usize) -> usize

@@ -6,7 +6,7 @@ use native.Mathlib.Nat.{zero-add}
 use native.Mathlib.Omega.{arith}
 use Rattle.lists.specs.Seq.{keep, upFrom}
 use Rattle.guard.specs.Row.{isKin, kin}
-use Rattle.guard.proofs.PutLaws.{Left}
+use Rattle.lists.proofs.PutLaws.{Left}
 use Rattle.guard.proofs.KinLaws.{kin-begin, kin-test, kept, skipped, kept-room, all-kept}
 use borrow.Author.Needs.{needs}
 use Rattle.guard.proofs.fill.kin.Statement.{statement}

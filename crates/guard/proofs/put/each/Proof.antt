@@ -4,7 +4,8 @@ use Prim.Native.Nat.{_-_, _+_, _*_, _≤_}
 use native.Mathlib.Omega.{arith}
 use lib.ListN.{length, length-set, drop, getD}
 use Rattle.guard.specs.Put.{eachClause}
-use Rattle.guard.proofs.PutLaws.{Left, left-all, each-turn, each-out}
+use Rattle.lists.proofs.PutLaws.{Left, left-all}
+use Rattle.guard.proofs.PutLaws.{each-turn, each-out}
 use Rattle.guard.proofs.Shapes.{clause-length}
 use borrow.Author.Needs.{needs}
 use Rattle.guard.proofs.put.each.Statement.{statement}

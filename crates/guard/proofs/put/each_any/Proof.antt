@@ -5,7 +5,8 @@ use Prim.Native.Nat.{_-_, _+_, _*_, _≤_}
 use native.Mathlib.Omega.{arith}
 use lib.ListN.{length, length-set, drop}
 use Rattle.guard.specs.Put.{anyPairs, eachAnyBytes}
-use Rattle.guard.proofs.PutLaws.{Left, left-all, any-turn, any-out, put-append}
+use Rattle.lists.proofs.PutLaws.{Left, left-all, put-append}
+use Rattle.guard.proofs.PutLaws.{any-turn, any-out}
 use Rattle.guard.proofs.Shapes.{each-short}
 use borrow.Author.Needs.{needs}
 use Rattle.guard.proofs.put.each_any.Statement.{statement}

@@ -4,7 +4,8 @@ use Prim.Native.Nat.{_-_, _+_, _*_, _≤_}
 use native.Mathlib.Omega.{arith}
 use lib.ListN.{length, length-set, drop}
 use Rattle.guard.specs.Put.{pairs}
-use Rattle.guard.proofs.PutLaws.{Left, left-all, pairs-turn, clause-out}
+use Rattle.lists.proofs.PutLaws.{Left, left-all}
+use Rattle.guard.proofs.PutLaws.{pairs-turn, clause-out}
 use borrow.Author.Needs.{needs}
 use Rattle.guard.proofs.put.put_clause.Statement.{statement}
 use Rattle.guard.proofs.put.put_clause.Tie as tie
