@@ -70,10 +70,15 @@ fn compare(name: &str, subject: impl Implementation, options: Options) -> ExitCo
     println!("time: {:.1} s", begin.elapsed().as_secs_f64());
     tally.described().iter().for_each(|difference| println!("difference: {difference}"));
     let mut missing = if options.only.is_some() { vec![] } else { tally.missing() };
-    missing.retain(|(function, _)| options.texts > 0 || *function != Function::Rehearse);
+    missing.retain(|(function, _)| *function != Function::Rehearse || texts_are_compared());
     missing.iter().for_each(|(function, number)| println!("never met: {} {number}", function.name()));
     println!("differential: {} comparisons, {} differences", tally.comparisons(), tally.differences());
     verdict(&tally, missing.is_empty())
+}
+
+/// The archive can be compared without the program; then no text is run.
+fn texts_are_compared() -> bool {
+    !cfg!(feature = "archive") || env::var_os("VULCEDAR_REHEARSE").is_some()
 }
 
 fn verdict(tally: &Tally, all_met: bool) -> ExitCode {
