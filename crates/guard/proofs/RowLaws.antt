@@ -23,15 +23,19 @@ use Rattle.guard.specs.Row.{isKin, kin, rowBy}
 use Rattle.guard.proofs.Shapes.{encode-one, encode-each, encode-each-any}
 use Rattle.guard.proofs.KinLaws.{first-before}
 
+-- behind the arms of a match
+pub past-kinds : (k : ℕ) → 5 < k → (k ≡ 6 → ⊥) → (k ≡ 7 → ⊥) → (k ≡ 8 → ⊥) → 2 ≤ k → k ≤ 8 → ⊥
+past-kinds k l a b c g h = omega arith
+
 -- finishing and abort, by the node's kind
 module _ (k v : ℕ) (cs : List ℕ) where
   pub finish-serial : {d : ℕ} → d ≡ lastOr v cs → k ≡ 2 → encode (finishBy (kindOf k) v cs) ≡ oneBytes 3 d
   unfolding kindOf finishBy codeNumber
   finish-serial is e = rw (e, is) (encode-one commit (lastOr v cs))
 
-  pub finish-and : k ≡ 3 → encode (finishBy (kindOf k) v cs) ≡ eachBytes (3 ∷ []) cs 0
+  pub finish-and : (k ≡ 3) ⊎ (k ≡ 8) → encode (finishBy (kindOf k) v cs) ≡ eachBytes (3 ∷ []) cs 0
   unfolding kindOf finishBy codeNumber
-  finish-and e = rw e (encode-each (commit ∷ []) cs)
+  finish-and h = let all = encode-each (commit ∷ []) cs in ⊎-elim (λ e. rw e all) (λ e. rw e all) h
 
   pub finish-or : k ≡ 4 → encode (finishBy (kindOf k) v cs) ≡ eachAnyBytes (3 ∷ 4 ∷ []) cs 3 cs
   unfolding kindOf finishBy codeNumber
@@ -45,7 +49,7 @@ module _ (k v : ℕ) (cs : List ℕ) where
   unfolding kindOf finishBy codeNumber
   finish-any a b = let any = encode-each-any [] [] commit cs in ⊎-elim (λ e. rw e any) (λ e. rw e any) (two 6 k a b)
 
-  pub finish-task : (2 ≤ k → k ≤ 7 → ⊥) → encode (finishBy (kindOf k) v cs) ≡ oneBytes 1 v
+  pub finish-task : (2 ≤ k → k ≤ 8 → ⊥) → encode (finishBy (kindOf k) v cs) ≡ oneBytes 1 v
   unfolding finishBy codeNumber
   finish-task h = rw (kind-other k h) (encode-one start v)
 
@@ -53,9 +57,13 @@ module _ (k v : ℕ) (cs : List ℕ) where
   unfolding kindOf abortBy codeNumber
   abort-any h = let any = encode-each-any [] [] abort cs in ⊎-elim (λ e. rw e any) (λ e. rw e any) h
 
-  pub abort-and : k ≡ 3 → encode (abortBy (kindOf k) v cs) ≡ eachAnyBytes (3 ∷ 4 ∷ []) cs 4 cs
+  pub abort-and : k ≡ 3 → encode (abortBy (kindOf k) v cs) ≡ eachAnyBytes [] [] 4 cs
   unfolding kindOf abortBy codeNumber
-  abort-and e = rw e (encode-each-any (commit ∷ abort ∷ []) cs abort cs)
+  abort-and e = rw e (encode-each-any [] [] abort cs)
+
+  pub abort-waiting : k ≡ 8 → encode (abortBy (kindOf k) v cs) ≡ eachAnyBytes (3 ∷ 4 ∷ []) cs 4 cs
+  unfolding kindOf abortBy codeNumber
+  abort-waiting e = rw e (encode-each-any (commit ∷ abort ∷ []) cs abort cs)
 
   pub abort-each : 4 ≤ k → k ≤ 5 → encode (abortBy (kindOf k) v cs) ≡ eachBytes (4 ∷ []) cs 0
   unfolding kindOf abortBy codeNumber
@@ -65,7 +73,7 @@ module _ (k v : ℕ) (cs : List ℕ) where
   unfolding kindOf abortBy codeNumber
   abort-contingency is e = rw (e, is) (encode-one abort (lastOr v cs))
 
-  pub abort-task : (2 ≤ k → k ≤ 7 → ⊥) → encode (abortBy (kindOf k) v cs) ≡ oneBytes 1 v
+  pub abort-task : (2 ≤ k → k ≤ 8 → ⊥) → encode (abortBy (kindOf k) v cs) ≡ oneBytes 1 v
   unfolding abortBy codeNumber
   abort-task h = rw (kind-other k h) (encode-one start v)
 
@@ -110,7 +118,11 @@ module _ (k u : ℕ) (cs : List ℕ) (v : ℕ) where
       let o = encode-one start u in
       ⊎-elim (λ e. rw (← e) o) (λ (l : 3 < k). ⊎-elim (λ e. rw e o) (λ e. rw e o) (two 4 k l b)) (eq-or-lt-of-le a)
 
-  pub start-root : (2 ≤ k → k ≤ 7 → ⊥) → encode (startBy (kindOf k) u cs v) ≡ eachBytes [] [] 0
+  pub start-waiting : k ≡ 8 → encode (startBy (kindOf k) u cs v) ≡ oneBytes 1 u
+  unfolding kindOf startBy codeNumber
+  start-waiting e = rw e (encode-one start u)
+
+  pub start-root : (2 ≤ k → k ≤ 8 → ⊥) → encode (startBy (kindOf k) u cs v) ≡ eachBytes [] [] 0
   unfolding startBy
   start-root h = rw (kind-other k h) (encode-each [] [])
 

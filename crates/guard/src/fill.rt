@@ -78,6 +78,7 @@ fn start(above: u8, u: u8, v: u8, cs: &[u8], buf: &mut [u8]) -> usize
         } else {
             crate::put::one(6, u, buf)
         },
+        8 => crate::put::one(1, u, buf),
         _ => crate::put::each(&[], &[], 0, buf),
     }
 }
@@ -89,7 +90,7 @@ fn finish(k: u8, v: u8, cs: &[u8], buf: &mut [u8]) -> usize
 {
     match k {
         2 => crate::put::one(3, last(cs, v), buf),
-        3 => crate::put::each(&[3], cs, 0, buf),
+        3 | 8 => crate::put::each(&[3], cs, 0, buf),
         4 => crate::put::each_any(&[3, 4], cs, 3, cs, buf),
         5 => crate::put::each_any(&[3, 4, 8], cs, 3, cs, buf),
         6..=7 => crate::put::each_any(&[], &[], 3, cs, buf),
@@ -103,9 +104,10 @@ fn abort(k: u8, v: u8, cs: &[u8], buf: &mut [u8]) -> usize
 {
     match k {
         2 | 7 => crate::put::each_any(&[], &[], 4, cs, buf),
-        3 => crate::put::each_any(&[3, 4], cs, 4, cs, buf),
+        3 => crate::put::each_any(&[], &[], 4, cs, buf),
         4..=5 => crate::put::each(&[4], cs, 0, buf),
         6 => crate::put::one(4, last(cs, v), buf),
+        8 => crate::put::each_any(&[3, 4], cs, 4, cs, buf),
         _ => crate::put::one(1, v, buf),
     }
 }

@@ -163,13 +163,13 @@ module _ (p : List ℕ) (ok : Accepted p) (s : Central) (good : Good p s) where
   answer-small or v l = omega arith
   answer-small xor v l = omega (arith, place-most (s .picked) 0 (children p v), ok .most v l)
   answer-small contingency v l = omega arith
-  answer-small waiting v l = omega arith
   answer-small conditional v l = go (s .answer v)
     where
       go : (t : Answer) → answerNumber t < 256
       go none = omega arith
       go said-yes = omega arith
       go said-no = omega arith
+  answer-small waiting v l = omega arith
 
   answers-bytes : Bytes (size p) (answersOf p s)
   unfolding answersOf

@@ -3,7 +3,7 @@ use mathlib.Core.Path.{_≡_}
 use mathlib.Core.Logic.{inl, inr, ⊎-elim}
 use native.Mathlib.Omega.{arith}
 use Rattle.guard.proofs.PutLaws.{put-as}
-use Rattle.guard.proofs.RowLaws.{abort-any, abort-and, abort-each, abort-contingency, abort-task}
+use Rattle.guard.proofs.RowLaws.{past-kinds, abort-any, abort-and, abort-each, abort-contingency, abort-waiting, abort-task}
 use borrow.Author.Needs.{needs}
 use Rattle.guard.proofs.fill.abort.Statement.{statement}
 use Rattle.guard.proofs.fill.abort.Tie as tie
@@ -20,6 +20,9 @@ each-any-requires c κs = search needs
 slice-aggregate-each-any-3 : tie.Need-slice-aggregate-each-any-3
 slice-aggregate-each-any-3 c = search needs
 
+slice-aggregate-each-any-4 : tie.Need-slice-aggregate-each-any-4
+slice-aggregate-each-any-4 c = search needs
+
 each-any-requires-2 : tie.Need-each-any-requires-2
 each-any-requires-2 c κs = search needs
 
@@ -28,6 +31,12 @@ last-requires c κs = search needs
 
 one-requires : tie.Need-one-requires
 one-requires c κs = search needs
+
+slice-aggregate-each-any-5 : tie.Need-slice-aggregate-each-any-5
+slice-aggregate-each-any-5 c = search needs
+
+each-any-requires-3 : tie.Need-each-any-requires-3
+each-any-requires-3 c κs = search needs
 
 slice-aggregate-each : tie.Need-slice-aggregate-each
 slice-aggregate-each c = search needs
@@ -48,7 +57,7 @@ same-length-2 : tie.Need-same-length-2
 same-length-2 c = search needs
 
 returns-2 : tie.Need-returns-2
-returns-2 c = put-as (abort-and _ _ _ (c .before .before .before .before .before .match .keys2)) (c .before .before .each-any2 .ensures)
+returns-2 c = put-as (abort-and _ _ _ (c .before .before .before .before .before .before .match .keys2)) (c .before .before .each-any2 .ensures)
 
 same-length-3 : tie.Need-same-length-3
 same-length-3 c = search needs
@@ -60,19 +69,28 @@ same-length-4 : tie.Need-same-length-4
 same-length-4 c = search needs
 
 returns-4 : tie.Need-returns-4
-returns-4 c = let k = c .before .before .before .before .before .before .before .before .before .before .args .k in
-    let n2 : k ≡ 2 → ⊥ = λ e. c .before .before .before .before .before .before .before .match .rest .0 .0 .1 (inl e) in
-    put-as (abort-each _ _ _ (omega arith) (omega arith)) (c .before .before .each .ensures)
+returns-4 c = put-as (abort-waiting _ _ _ (c .before .before .before .before .before .match .keys4)) (c .before .before .each-any3 .ensures)
 
 same-length-5 : tie.Need-same-length-5
 same-length-5 c = search needs
 
 returns-5 : tie.Need-returns-5
-returns-5 c = let k = c .before .before .before .before .before .before .before .before .args .k in
-    let r = c .before .before .before .before .before .match .rest .0 .0 .1 in
-    let n2 : k ≡ 2 → ⊥ = λ e. r (inl e) in
-    let n7 : k ≡ 7 → ⊥ = λ e. r (inr e) in
-    put-as (abort-task _ _ _ (λ a b. ⊎-elim (λ w. omega arith) (λ w. omega arith) (c .before .before .before .before .if1 .came))) (c .before .before .one2 .ensures)
+returns-5 c =
+    let k = c .before .before .before .before .before .before .before .before .before .before .args .k in
+    let n2 : k ≡ 2 → ⊥ = λ e. c .before .before .before .before .before .before .before .match .rest .0 .0 .0 .1 (inl e) in
+    put-as (abort-each _ _ _ (omega arith) (omega arith)) (c .before .before .each .ensures)
+
+same-length-6 : tie.Need-same-length-6
+same-length-6 c = search needs
+
+returns-6 : tie.Need-returns-6
+returns-6 c =
+    let k = c .before .before .before .before .before .before .before .before .args .k in
+    let r = c .before .before .before .before .before .match .rest in
+    let n2 : k ≡ 2 → ⊥ = λ e. r .0 .0 .0 .1 (inl e) in
+    let n7 : k ≡ 7 → ⊥ = λ e. r .0 .0 .0 .1 (inr e) in
+    put-as (abort-task _ _ _ (λ a b. ⊎-elim (λ w. omega (arith, n2, r .0 .0 .1)) (λ w. past-kinds _ (omega arith) (r .0 .1) n7 (r .1) a b) (c .before .before .before .before .if1 .came)))
+    (c .before .before .one2 .ensures)
 
 pub abort-spec : {M : Type 1} → statement M
 abort-spec =
@@ -82,9 +100,12 @@ abort-spec =
     slice-aggregate-each-any-2
     each-any-requires
     slice-aggregate-each-any-3
+    slice-aggregate-each-any-4
     each-any-requires-2
     last-requires
     one-requires
+    slice-aggregate-each-any-5
+    each-any-requires-3
     slice-aggregate-each
     each-requires
     one-requires-2
@@ -97,4 +118,6 @@ abort-spec =
     same-length-4
     returns-4
     same-length-5
-    returns-5)
+    returns-5
+    same-length-6
+    returns-6)

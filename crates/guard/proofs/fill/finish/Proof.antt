@@ -1,5 +1,6 @@
 -- Each arm writes its row, as the laws of rows say. Assumes nothing.
-use mathlib.Core.Logic.{⊎-elim}
+use mathlib.Core.Path.{_≡_}
+use mathlib.Core.Logic.{inl, inr, ⊎-elim}
 use native.Mathlib.Omega.{arith}
 use Rattle.guard.proofs.PutLaws.{put-as}
 use Rattle.guard.proofs.RowLaws.{finish-serial, finish-and, finish-or, finish-xor, finish-any, finish-task}
@@ -71,13 +72,21 @@ same-length-5 : tie.Need-same-length-5
 same-length-5 c = search needs
 
 returns-5 : tie.Need-returns-5
-returns-5 c = put-as (finish-any _ _ _ (omega arith) (omega arith)) (c .before .before .each-any3 .ensures)
+returns-5 c =
+    let k = c .before .before .before .before .before .before .before .before .before .before .before .args .k in
+    let n3 : k ≡ 3 → ⊥ = λ e. c .before .before .before .before .before .before .before .before .match .rest .0 .0 .1 (inl e) in
+    put-as (finish-any _ _ _ (omega arith) (omega arith)) (c .before .before .each-any3 .ensures)
 
 same-length-6 : tie.Need-same-length-6
 same-length-6 c = search needs
 
 returns-6 : tie.Need-returns-6
-returns-6 c = put-as (finish-task _ _ _ (λ a b. ⊎-elim (λ w. omega arith) (λ w. omega arith) (c .before .before .before .before .if1 .came))) (c .before .before .one2 .ensures)
+returns-6 c =
+    let k = c .before .before .before .before .before .before .before .before .args .k in
+    let r = c .before .before .before .before .before .match .rest .0 .0 .1 in
+    let n3 : k ≡ 3 → ⊥ = λ e. r (inl e) in
+    let n8 : k ≡ 8 → ⊥ = λ e. r (inr e) in
+    put-as (finish-task _ _ _ (λ a b. ⊎-elim (λ w. omega arith) (λ w. omega arith) (c .before .before .before .before .if1 .came))) (c .before .before .one2 .ensures)
 
 pub finish-spec : {M : Type 1} → statement M
 finish-spec =

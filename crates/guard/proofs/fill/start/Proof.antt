@@ -2,7 +2,7 @@
 use mathlib.Core.Logic.{⊎-elim}
 use native.Mathlib.Omega.{arith}
 use Rattle.guard.proofs.PutLaws.{put-as}
-use Rattle.guard.proofs.RowLaws.{first-serial, later-serial, first-contingency, later-contingency, first-conditional, later-conditional, start-block, start-root}
+use Rattle.guard.proofs.RowLaws.{first-serial, later-serial, first-contingency, later-contingency, first-conditional, later-conditional, past-kinds, start-block, start-waiting, start-root}
 use borrow.Author.Needs.{needs}
 use Rattle.guard.proofs.fill.start.Statement.{statement}
 use Rattle.guard.proofs.fill.start.Tie as tie
@@ -30,6 +30,9 @@ one-requires-6 c κs = search needs
 
 one-requires-7 : tie.Need-one-requires-7
 one-requires-7 c κs = search needs
+
+one-requires-8 : tie.Need-one-requires-8
+one-requires-8 c κs = search needs
 
 slice-aggregate-each : tie.Need-slice-aggregate-each
 slice-aggregate-each c = search needs
@@ -80,13 +83,21 @@ same-length-7 : tie.Need-same-length-7
 same-length-7 c = search needs
 
 returns-7 : tie.Need-returns-7
-returns-7 c = put-as (start-block _ _ _ _ (omega arith) (omega arith)) (c .before .before .one7 .ensures)
+returns-7 c = put-as (start-waiting _ _ _ _ (c .before .before .before .before .match .keys4)) (c .before .before .one7 .ensures)
+
+same-length-9 : tie.Need-same-length-9
+same-length-9 c = search needs
+
+returns-8 : tie.Need-returns-8
+returns-8 c = put-as (start-block _ _ _ _ (omega arith) (omega arith)) (c .before .before .one8 .ensures)
 
 same-length-8 : tie.Need-same-length-8
 same-length-8 c = search needs
 
-returns-8 : tie.Need-returns-8
-returns-8 c = put-as (start-root _ _ _ _ (λ a b. ⊎-elim (λ w. omega arith) (λ w. omega arith) (c .before .before .before .before .before .before .if4 .came))) (c .before .before .each .ensures)
+returns-9 : tie.Need-returns-9
+returns-9 c =
+    let r = c .before .before .before .before .before .before .before .match .rest in
+    put-as (start-root _ _ _ _ (λ a b. ⊎-elim (λ w. omega arith) (λ w. past-kinds _ (omega arith) (r .0 .0 .1) (r .0 .1) (r .1) a b) (c .before .before .before .before .before .before .if4 .came))) (c .before .before .each .ensures)
 
 pub start-spec : {M : Type 1} → statement M
 start-spec =
@@ -100,6 +111,7 @@ start-spec =
     one-requires-5
     one-requires-6
     one-requires-7
+    one-requires-8
     slice-aggregate-each
     slice-aggregate-each-2
     each-requires
@@ -118,4 +130,6 @@ start-spec =
     same-length-7
     returns-7
     same-length-8
-    returns-8)
+    returns-8
+    same-length-9
+    returns-9)
