@@ -11,3 +11,5 @@ pub mod Between
 pub mod Points
 pub mod Search
 pub mod PutLaws
+pub mod Each
+pub mod Parts

@@ -8,7 +8,7 @@ use lib.ListN.{length, getD, drop, set, length-drop, drop-of-length-le}
 use Rattle.lists.specs.Put.{Put}
 use Rattle.lists.proofs.PutLaws.{Left, left-all, left-none, left-put, put-one, put-two, drop-turn}
 use Rattle.text.specs.Hex.{digitOf, hexLine}
-use Rattle.text.specs.Calls.{printed, lineInto}
+use Rattle.text.specs.Calls.{printing, lineInto}
 
 pub hex-length : (bs : List ℕ) → length (hexLine bs) ≡ 2 * length bs + 1
 unfolding hexLine
@@ -42,16 +42,16 @@ module _ {bs b₀ : List ℕ} {at : ℕ} {b : List ℕ} {w i : ℕ} (h : HexLeft
 
 -- the answer
 module _ (bs b : List ℕ) (w : ℕ) where
-  pub line-not : length b < w + (2 * length bs + 1) → lineInto bs b w ≡ printed w b
+  pub line-not : length b < w + (2 * length bs + 1) → lineInto bs b w ≡ printing w b
   unfolding lineInto
   line-not l = rw (lt-leb (w + length (hexLine bs)) (length b) (omega (arith, l, hex-length bs)))
 
-  pub line-put : {b′ : List ℕ} {w′ : ℕ} → w + (2 * length bs + 1) ≤ length b → Put (hexLine bs) b w b′ w′ → lineInto bs b w ≡ printed w′ b′
+  pub line-put : {b′ : List ℕ} {w′ : ℕ} → w + (2 * length bs + 1) ≤ length b → Put (hexLine bs) b w b′ w′ → lineInto bs b w ≡ printing w′ b′
   unfolding lineInto
   line-put l h = rw (le-leb (w + length (hexLine bs)) (length b) (omega (arith, l, hex-length bs)), h .place, h .held)
 
   -- and back
-  pub put-by : {b′ : List ℕ} {w′ : ℕ} → w + (2 * length bs + 1) ≤ length b → lineInto bs b w ≡ printed w′ b′ → Put (hexLine bs) b w b′ w′
+  pub put-by : {b′ : List ℕ} {w′ : ℕ} → w + (2 * length bs + 1) ≤ length b → lineInto bs b w ≡ printing w′ b′ → Put (hexLine bs) b w b′ w′
   unfolding lineInto
   put-by l h =
       let q = rw (le-leb (w + length (hexLine bs)) (length b) (omega (arith, l, hex-length bs))) at h in

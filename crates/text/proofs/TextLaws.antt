@@ -8,9 +8,9 @@ use borrow.Author.Tests.{not-true, not-false, eq-eqb, ne-eqb, eqb-true, leb-true
 use lib.Dec.{eqb, leb}
 use lib.ListN.{length, getD, take, drop, length-drop, drop-of-length-le, List·getD-eq-default}
 use lib.Seq.{drop-drop, take-all}
-use Rattle.lists.proofs.Logic.{cases, decided, and-right}
+use Rattle.lists.proofs.Logic.{cases, decided, and-left, and-right}
 use Rattle.text.specs.Hex.{isLine, lineBytes}
-use Rattle.text.specs.Text.{linesWithin, lines, isBar}
+use Rattle.text.specs.Text.{linesWithin, lines, isBar, barText, stepText, stepLines, wellFormed}
 use Rattle.text.proofs.HexLaws.{line-long}
 
 -- a text from a place on, as the code takes it
@@ -119,3 +119,19 @@ within-fit (suc n) k t = cases (decided (isLine k t))
 pub lines-fit : (k : ℕ) (t : List ℕ) → (2 * k + 1) * length (lines k t) ≤ length t
 unfolding lines
 lines-fit k t = within-fit (length t) k t
+
+-- what a well-formed text has
+module _ (t : List ℕ) (h : wellFormed t ≡ true) where
+  front : (leb (length t) 32768 && isBar (barText t)) ≡ true
+  unfolding wellFormed
+  front = and-left (leb (length t) 32768 && isBar (barText t)) (eqb (length (stepText t)) (7 * length (stepLines t))) h
+
+  pub formed-short : length t ≤ 32768
+  formed-short = leb-true (length t) 32768 (and-left (leb (length t) 32768) (isBar (barText t)) front)
+
+  pub formed-bar : isBar (barText t) ≡ true
+  formed-bar = and-right (leb (length t) 32768) (isBar (barText t)) front
+
+  pub formed-steps : length (stepText t) ≡ 7 * length (stepLines t)
+  unfolding wellFormed
+  formed-steps = eqb-true _ _ (and-right (leb (length t) 32768 && isBar (barText t)) (eqb (length (stepText t)) (7 * length (stepLines t))) h)

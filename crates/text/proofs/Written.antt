@@ -2,7 +2,7 @@
 use mathlib.Core.Path.{_≡_, refl, sym, _∙_, ap}
 use mathlib.Core.Bool.{true, _&&_}
 use mathlib.Core.List.{List, [], _∷_, _++_, map, flatMap, append-assoc, append-nil}
-use Prim.Native.Nat.{ℕ, zero, suc, _+_, _-_, _*_, _/_, _%_, _≤_, _<_}
+use Prim.Native.Nat.{ℕ, zero, suc, _+_, _-_, _*_, _/_, _%_, _<_}
 use native.Mathlib.Nat.{mul-suc, mul-zero, add-comm}
 use native.Mathlib.Numerals.{add-one}
 use native.Mathlib.Omega.{arith}
@@ -18,7 +18,7 @@ use Rattle.lists.proofs.PutLaws.{drop-turn}
 use Rattle.text.specs.Hex.{isDigit, valueOf, digitOf, digitAt, isLine, lineByte, lineBytes, hexLine}
 use Rattle.text.specs.Text.{linesWithin, lines, planLines, isBar, barText, stepText, stepLines, wellFormed, textOf, isBytes, areLines}
 use Rattle.text.proofs.HexLaws.{low-least, low-value, high-least, high-value, value-small, line-digits, line-feed, line-long}
-use Rattle.text.proofs.TextLaws.{bar-long}
+use Rattle.text.proofs.TextLaws.{bar-long, formed-bar, formed-steps}
 use Rattle.text.proofs.DecodeLaws.{line-length}
 
 -- a digit is that of its value
@@ -117,29 +117,17 @@ bar-is t h =
     )
 
 module _ (t : List ℕ) (h : wellFormed t ≡ true) where
-  bar-in : isBar (barText t) ≡ true
-  unfolding wellFormed
-  bar-in = and-right (leb (length t) 32768) (isBar (barText t)) (and-left (leb (length t) 32768 && isBar (barText t)) (eqb (length (stepText t)) (7 * length (stepLines t))) h)
-
-  steps-all : length (stepText t) ≡ 7 * length (stepLines t)
-  unfolding wellFormed
-  steps-all = eqb-true _ _ (and-right (leb (length t) 32768 && isBar (barText t)) (eqb (length (stepText t)) (7 * length (stepLines t))) h)
-
   steps-back : flatMap hexLine (stepLines t) ≡ stepText t
   unfolding stepLines
   steps-back =
       sym (append-nil (flatMap hexLine (lines 3 (stepText t))))
-      ∙ ap (λ r. flatMap hexLine (lines 3 (stepText t)) ++ r) (sym (drop-of-length-le (stepText t) {i = 7 * length (lines 3 (stepText t))} (omega (arith, steps-all))))
+      ∙ ap (λ r. flatMap hexLine (lines 3 (stepText t)) ++ r) (sym (drop-of-length-le (stepText t) {i = 7 * length (lines 3 (stepText t))} (omega (arith, formed-steps t h))))
       ∙ lines-back 3 (stepText t)
 
   bar-back : 45 ∷ 45 ∷ 10 ∷ stepText t ≡ barText t
   unfolding barText stepText
-  bar-back = ap (λ r. 45 ∷ 45 ∷ 10 ∷ r) (sym (drop-drop 3 (5 * length (planLines t)) t)) ∙ sym (bar-is (barText t) bar-in)
+  bar-back = ap (λ r. 45 ∷ 45 ∷ 10 ∷ r) (sym (drop-drop 3 (5 * length (planLines t)) t)) ∙ sym (bar-is (barText t) (formed-bar t h))
 
   pub text-back : textOf (planLines t) (stepLines t) ≡ t
   unfolding textOf barText planLines
   text-back = ap (λ r. flatMap hexLine (lines 2 t) ++ r) (rw steps-back bar-back) ∙ lines-back 2 t
-
-  pub text-short : length t ≤ 32768
-  unfolding wellFormed
-  text-short = leb-true (length t) 32768 (and-left (leb (length t) 32768) (isBar (barText t)) (and-left (leb (length t) 32768 && isBar (barText t)) (eqb (length (stepText t)) (7 * length (stepLines t))) h))

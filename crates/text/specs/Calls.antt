@@ -36,13 +36,13 @@ unfoldable pub readInto : List ℕ → List ℕ → List ℕ → Reading
 readInto t p s = cond (wellFormed t) (reading (countsOf t) (inFront (planBytes t) p) (inFront (stepBytes t) s)) (reading (countsOf t) p s)
 
 -- a line in a buffer, and the place behind it
-pub record Printed : Type 0 where
+pub record Printing : Type 0 where
   pub place : ℕ
   pub buffer : List ℕ
 
-abbrev pub printed : ℕ → List ℕ → Printed
-printed w b = record { place = w; buffer = b }
+abbrev pub printing : ℕ → List ℕ → Printing
+printing w b = record { place = w; buffer = b }
 
 -- the line of bs from w on; where there is no room for it nothing is written and the place stays
-unfoldable pub lineInto : List ℕ → List ℕ → ℕ → Printed
-lineInto bs b w = cond (leb (w + length (hexLine bs)) (length b)) (printed (w + length (hexLine bs)) (sets b w (hexLine bs))) (printed w b)
+unfoldable pub lineInto : List ℕ → List ℕ → ℕ → Printing
+lineInto bs b w = cond (leb (w + length (hexLine bs)) (length b)) (printing (w + length (hexLine bs)) (sets b w (hexLine bs))) (printing w b)

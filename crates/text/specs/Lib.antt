@@ -1,4 +1,4 @@
--- Letters: t a text, k the bytes of a line, bs bytes, b c their digits, w a place in a buffer.
+-- Letters: t a text, k the bytes of a line, bs bytes, ps ss plan and step lines, b a buffer, w a place in it.
 pub mod Hex
 pub mod Text
 pub mod Calls

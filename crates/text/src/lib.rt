@@ -1,4 +1,4 @@
-// Rehearsal text: reads lines of hexadecimal digits, and prints them. What a text tells is specs/Text.antt, a line specs/Hex.antt, and what the
+// The text of a simulation: reads lines of hexadecimal digits, and prints them. What a text tells is specs/Text.antt, a line specs/Hex.antt, and what the
 // public functions answer specs/Calls.antt. No public function has a `requires`: malformed text and short buffers are refused.
 ghost use mathlib.Core.Path.{_≡_};
 ghost use mathlib.Core.List.{flatten};
@@ -7,7 +7,7 @@ ghost use lib.ListN.{length};
 ghost use Rattle.lists.specs.Put.{Put};
 ghost use Rattle.text.specs.Hex.{isDigit, valueOf, digitOf, isLine, lineByte, lineBytes, hexLine};
 ghost use Rattle.text.specs.Text.{lines, isBar};
-ghost use Rattle.text.specs.Calls.{malformed, countsOf, inFront, readInto, reading, lineInto, printed};
+ghost use Rattle.text.specs.Calls.{malformed, countsOf, inFront, readInto, reading, lineInto, printing};
 use plan::byte_at;
 
 // Whether a text is well-formed, and its numbers of plan lines and step lines.
@@ -203,7 +203,7 @@ fn write_line(bytes: &[u8], out: &mut [u8], at: usize) -> usize
 
 // Writes the line of these bytes from `at` on, and answers the place behind it; where there is no room for it, leaves `out` and answers `at`.
 pub fn put_line(bytes: &[u8], out: &mut [u8], at: usize) -> usize
-    ensures { λ r. ⌜ lineInto (now (bytes .entry)) (now (out .entry)) at ≡ printed r (now (out .exit)) ⌝ }
+    ensures { λ r. ⌜ lineInto (now (bytes .entry)) (now (out .entry)) at ≡ printing r (now (out .exit)) ⌝ }
 {
     if out.len() < at {
         return at;

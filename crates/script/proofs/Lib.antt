@@ -1,0 +1,5 @@
+-- Laws that the proofs here cite.
+pub mod LineLaws
+pub mod SimulationLaws
+pub mod ScriptLaws
+pub mod Main
