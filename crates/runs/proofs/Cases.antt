@@ -55,12 +55,12 @@ abbrev pair : ℕ → List ℕ
 pair k = k ∷ 255 ∷ 1 ∷ 0 ∷ 1 ∷ 0 ∷ []
 
 -- the block fails with its first failed child, and the other one starts and ends afterwards; or it waits for that
-early : List Event
+abbrev early : List Event
 early = at start 0 ∷ at start 1 ∷ at abort 1 ∷ at abort 0 ∷ at start 2 ∷ at commit 2 ∷ []
 
-late : List Event
+abbrev late : List Event
 late = at start 0 ∷ at start 1 ∷ at abort 1 ∷ at start 2 ∷ at commit 2 ∷ at abort 0 ∷ []
 
 pub ands-right : map (λ k. isRun (pair k) early ∷ isRun (pair k) late ∷ []) (3 ∷ 8 ∷ []) ≡ (true ∷ true ∷ []) ∷ (false ∷ true ∷ []) ∷ []
-unfolding early late isRun runFrom allowed applies appliesBy allowedBy mayStart reachedBy finishesBy failsBy fresh after markAfter answerAfter pickedAfter isMark markNumber above inXor isKind kindNumber kind kindOf kindByte parent size children childrenBelow keep upFrom all any
+unfolding isRun runFrom allowed applies appliesBy allowedBy mayStart reachedBy finishesBy failsBy fresh after markAfter answerAfter pickedAfter isMark markNumber above inXor isKind kindNumber kind kindOf kindByte parent size children childrenBelow keep upFrom all any
 ands-right = refl
