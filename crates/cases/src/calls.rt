@@ -34,63 +34,14 @@ pub fn try_simulate(call: &[u8], plan: &[u8], code: u32, node: u32, site: u32, s
     say::answer(call, reply.number, canary::left(state, 0));
 }
 
-fn ruled(r: central::Ruling) -> u8 {
-    match r {
-        central::Ruling::Refused(n) => n,
-        _ => 0,
-    }
-}
-
-fn both_left(a: &[u8], b: &[u8]) -> bool {
-    if canary::left(a, 0) {
-        return canary::left(b, 0);
-    }
-    false
-}
-
-pub fn try_rule(
-    call: &[u8],
-    plan: &[u8],
-    code: u32,
-    node: u32,
-    marks: &mut [u8],
-    notes: &mut [u8],
-) {
-    canary::fill(marks);
-    canary::fill(notes);
-    let number = ruled(central::rule(plan, code, node, marks, notes));
-    say::answer(call, number, both_left(marks, notes));
-}
-
 pub fn try_pass(call: &[u8], plan: &[u8], answers: &[u8], marks: &mut [u8]) {
     canary::fill(marks);
     let number = pass::pass(plan, answers, marks);
     say::answer(call, number, canary::left(marks, 0));
 }
 
-pub fn try_record(call: &[u8], plan: &[u8], state: &[u8], marks: &mut [u8], classes: &mut [u8]) {
-    canary::fill(marks);
-    canary::fill(classes);
-    let number = simulation::record(plan, state, marks, classes);
-    say::answer(call, number, both_left(marks, classes));
-}
-
-pub fn try_run(call: &[u8], plan: &[u8], steps: &[u8], state: &mut [u8], numbers: &mut [u8]) {
-    canary::fill(state);
-    canary::fill(numbers);
-    let number = simulation::run(plan, steps, state, numbers);
-    say::answer(call, number, both_left(state, numbers));
-}
-
 // The calls that take an event, on a row and a state; the guard writer gets the row as its buffer.
-pub fn with_event(
-    label: &[u8],
-    plan: &[u8],
-    code: u32,
-    node: u32,
-    row: &mut [u8],
-    state: &mut [u8],
-) {
+fn with_event(label: &[u8], plan: &[u8], code: u32, node: u32, row: &mut [u8], state: &mut [u8]) {
     say::words(label);
     try_guard(b": guard ", plan, code, node, row);
     try_step(b", step ", plan, code, node, row);
@@ -99,15 +50,18 @@ pub fn with_event(
     try_simulate(b", message ", plan, code, node, 0, state);
 }
 
-// Every call, with code 9 and lengths that fit no plan tried here.
+// The same on one line.
+pub fn event(label: &[u8], plan: &[u8], code: u32, node: u32, row: &mut [u8], state: &mut [u8]) {
+    with_event(label, plan, code, node, row, state);
+    say::words(b"\n");
+}
+
+// The check, and every call with code 9 and lengths that fit no plan tried here.
 pub fn all_wrong(label: &[u8], plan: &[u8]) {
     let mut row = [0u8; 5];
-    let mut other = [0u8; 5];
     let mut state = [0u8; 35];
+    say::line(label, plan::check(plan));
     with_event(label, plan, 9, 200, &mut row, &mut state);
-    try_rule(b", rule ", plan, 9, 200, &mut row, &mut other);
     try_pass(b", pass ", plan, b"\x00\x01\x01\x01\x01", &mut row);
-    try_record(b", record ", plan, &state, &mut row, &mut other);
-    try_run(b", run ", plan, b"\x01\x00\xff", &mut state, &mut other);
     say::words(b"\n");
 }

@@ -9,54 +9,39 @@ mod rows;
 mod say;
 mod texts;
 
-fn checks() {
-    check::nodes();
-    check::parents();
-    check::children();
-    check::depths();
-}
-
-fn refusals(plan: &[u8]) {
-    refused::order(plan);
+fn calls_of(plan: &[u8]) {
+    refused::lengths(plan);
     refused::unknown(plan);
     refused::not_applying(plan);
-    refused::sites(plan);
-    refused::lengths(plan);
-    refused::record_lengths(plan);
-    refused::run_lengths(plan);
+    refused::single(plan);
 }
 
-fn sites(plan: &[u8]) {
+fn steps_of(plan: &[u8]) {
     rows::guards(plan);
-    rows::turned_down();
     rows::barred(plan);
     rows::unmet(plan);
     rows::lies(plan);
     rows::truths(plan);
-}
-
-fn passes(plan: &[u8]) {
     rows::picks(plan);
     rows::faults(plan);
-    rows::first_fault();
-}
-
-fn printing() {
-    texts::lines();
-    texts::letters();
-    texts::sizes();
-    texts::room();
 }
 
 fn main() {
     let plan = b"\x02\xff\x01\x00\x05\x00\x01\x02\x01\x02\x01\x00";
-    checks();
-    refused::limits();
-    refused::bytes();
-    refused::trees();
+    check::bytes();
+    check::conditionals();
+    check::most();
+    check::more();
+    check::parents();
     say::named(b"P", plan);
-    refusals(plan);
-    sites(plan);
-    passes(plan);
-    printing();
+    calls_of(plan);
+    steps_of(plan);
+    rows::only_child();
+    rows::later_child();
+    rows::two_children();
+    rows::first_fault();
+    texts::lines();
+    texts::letters();
+    texts::sizes();
+    texts::room();
 }

@@ -5,12 +5,6 @@ ghost use Prim.Native.Nat.{_≤_};
 ghost use lib.ListN.{length};
 ghost use mathlib.Core.Path.{_≡_};
 
-fn out_room() -> [u8; 16384]
-    ensures { λ r. ⌜ 16384 ≡ length r ⌝ }
-{
-    [0; 16384]
-}
-
 // How much is printed, its first line, and whether the bytes behind it were left.
 fn printed(label: &[u8], text: &[u8], out: &mut [u8]) {
     canary::fill(out);
@@ -27,7 +21,7 @@ fn printed(label: &[u8], text: &[u8], out: &mut [u8]) {
 }
 
 fn of(label: &[u8], text: &[u8]) {
-    let mut out = out_room();
+    let mut out = [0u8; 16384];
     printed(label, text, &mut out);
 }
 

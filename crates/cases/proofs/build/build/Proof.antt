@@ -7,10 +7,10 @@ use Rattle.cases.proofs.build.build.Statement.{statement}
 use Rattle.cases.proofs.build.build.Tie as tie
 
 abbrev Inv-loop : tie.InvT-loop
-Inv-loop shape plan₀ n i₀ plan i = length plan ≡ length plan₀
+Inv-loop blocks first each plan₀ i₀ plan i = length plan ≡ length plan₀
 
 abbrev μ-loop : tie.MeasureT-loop
-μ-loop shape plan₀ n i₀ plan i = length plan₀ - i
+μ-loop blocks first each plan₀ i₀ plan i = length plan₀ - i
 
 loop-holds : tie.Need-loop-holds Inv-loop μ-loop
 loop-holds c = search needs
