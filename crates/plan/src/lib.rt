@@ -135,33 +135,23 @@ fn under_block(plan: &[u8], v: usize) -> bool
     kind_at(plan, u) != 1
 }
 
-fn blocks_ok(plan: &[u8]) -> bool
-    requires { ⌜ Ordered (now plan) ⌝ }
-    ensures { λ r. ⌜ r ≡ atAll underBlock (now (plan .entry)) ⌝ }
-{
-    let n = node_count(plan);
-    let mut v = 0;
-    while v < n {
-        if !under_block(plan, v) {
-            return false;
-        }
-        v += 1;
-    }
-    true
-}
-
-// Leaves each node's number of children in `out`, which is one zero a node.
-fn child_counts(plan: &[u8], out: &mut [u8])
+// Leaves each node's number of children in `out`, which is one zero a node, and answers whether no parent is a task. Here and below the loop
+// runs on behind a failed test: that is faster where none fails.
+fn child_counts(plan: &[u8], out: &mut [u8]) -> bool
     requires { ⌜ Ordered (now plan) × (now out ≡ replicate (size (now plan)) 0) ⌝ }
+    ensures { λ r. ⌜ r ≡ atAll underBlock (now (plan .entry)) ⌝ }
     ensures { λ _. ⌜ now (out .exit) ≡ table (childCount (now (plan .entry))) (size (now (plan .entry))) ⌝ }
 {
     let n = node_count(plan);
+    let mut ok = true;
     let mut v = 1;
     while v < n {
+        ok = ok & under_block(plan, v);
         let u = parent_at(plan, v);
         out[u] = out[u] + 1;
         v += 1;
     }
+    ok
 }
 
 fn count_ok(k: u8, n: u8) -> bool
@@ -179,54 +169,33 @@ fn counts_match(plan: &[u8], counts: &[u8]) -> bool
     ensures { λ r. ⌜ r ≡ atAll countOk (now (plan .entry)) ⌝ }
 {
     let n = node_count(plan);
+    let mut ok = true;
     let mut v = 0;
     while v < n {
-        if !count_ok(kind_at(plan, v), counts[v]) {
-            return false;
-        }
+        ok = ok & count_ok(kind_at(plan, v), counts[v]);
         v += 1;
     }
-    true
+    ok
 }
 
-fn counts_ok(plan: &[u8]) -> bool
-    requires { ⌜ Ordered (now plan) ⌝ }
-    ensures { λ r. ⌜ r ≡ atAll countOk (now (plan .entry)) ⌝ }
-{
-    let n = node_count(plan);
-    let mut counts = [0u8; 160];
-    child_counts(plan, &mut counts[..n]);
-    counts_match(plan, &counts[..n])
-}
-
-// Leaves each node's depth in `out`, which is one byte a node.
-fn depths(plan: &[u8], out: &mut [u8])
+// Leaves each node's depth in `out`, which is one byte a node, and answers whether all are within the limit.
+fn depths(plan: &[u8], out: &mut [u8]) -> bool
     requires { ⌜ Ordered (now plan) × (length (now out) ≡ size (now plan)) ⌝ }
+    ensures { λ r. ⌜ r ≡ atAll depthOk (now (plan .entry)) ⌝ }
     ensures { λ _. ⌜ now (out .exit) ≡ table (depth (now (plan .entry))) (size (now (plan .entry))) ⌝ }
 {
     let n = node_count(plan);
+    let mut ok = true;
     out[0] = 1;
     let mut v = 1;
     while v < n {
         let u = parent_at(plan, v);
-        out[v] = out[u] + 1;
+        let d = out[u] + 1;
+        ok = ok & (d <= 32);
+        out[v] = d;
         v += 1;
     }
-}
-
-fn depths_within(plan: &[u8], depths: &[u8]) -> bool
-    requires { ⌜ now depths ≡ table (depth (now plan)) (size (now plan)) ⌝ }
-    ensures { λ r. ⌜ r ≡ atAll depthOk (now (plan .entry)) ⌝ }
-{
-    let n = node_count(plan);
-    let mut v = 0;
-    while v < n {
-        if depths[v] > 32 {
-            return false;
-        }
-        v += 1;
-    }
-    true
+    ok
 }
 
 fn depths_ok(plan: &[u8]) -> bool
@@ -235,8 +204,7 @@ fn depths_ok(plan: &[u8]) -> bool
 {
     let n = node_count(plan);
     let mut buf = [0u8; 160];
-    depths(plan, &mut buf[..n]);
-    depths_within(plan, &buf[..n])
+    depths(plan, &mut buf[..n])
 }
 
 // The number of the first test that the plan fails, and 0 where it passes all.
@@ -252,10 +220,12 @@ pub fn check(plan: &[u8]) -> u8
     if !parents_ok(plan) {
         return 3;
     }
-    if !blocks_ok(plan) {
+    let n = node_count(plan);
+    let mut counts = [0u8; 160];
+    if !child_counts(plan, &mut counts[..n]) {
         return 4;
     }
-    if !counts_ok(plan) {
+    if !counts_match(plan, &counts[..n]) {
         return 5;
     }
     if !depths_ok(plan) {
