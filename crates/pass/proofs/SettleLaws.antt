@@ -1,16 +1,19 @@
 -- The loop of `settle` over v's children, a turn at a time: at child c, the block has walked its children below c. Assumes nothing.
 use mathlib.Core.Path.{_≡_, refl, sym, _∙_, ap}
 use mathlib.Core.Bool.{Bool, true, false, not}
+use mathlib.Core.Logic.{_⊎_, inl, inr, ⊎-elim}
 use mathlib.Core.List.{List, [], _∷_, _++_}
 use Prim.Native.Nat.{ℕ, zero, suc, _+_, _*_, _-_, _/_, _≤_, _<_}
 use native.Mathlib.Omega.{arith}
+use lib.Dec.{eqb}
 use lib.ListN.{length, getD, set, length-set}
-use borrow.Author.Tests.{eq-eqb, ne-eqb, not-true, not-false}
-use Rattle.plan.specs.Plan.{Kind, kindOf, size, kindByte, kind, parent, childrenBelow, children}
+use borrow.Author.Tests.{eqb-true, eq-eqb, ne-eqb, not-true, not-false}
+use Rattle.lists.proofs.Logic.{cases, decided}
+use Rattle.plan.specs.Plan.{Kind, task, kindOf, size, kindByte, kind, parent, childrenBelow, children}
 use Rattle.plan.proofs.PlanLaws.{children-none, children-yes}
-use Rattle.pass.specs.Pass.{Settled, Tally, Walked, goes, skip, note, childMark, noted, meetBy, meet, walk, nothing, unwalked, badAnswer, endOf, close, settleIf, settleBy, settle}
+use Rattle.pass.specs.Pass.{Settled, Tally, Walked, goes, skip, note, childMark, noted, meetBy, meet, walk, nothing, unwalked, oneOrTwo, badAnswer, badPick, closes, ending, endOf, close, settleIf, settleBy, settle}
 use Rattle.pass.specs.Pass
-use Rattle.pass.specs.Values.{outcomeOf, Ready, nextChild, linkAt, Linked, Settles}
+use Rattle.pass.specs.Values.{outcomeOf, taskEnd, Ready, nextChild, linkAt, Linked, Settles}
 use Rattle.pass.specs.declared.Outcome.{Outcome}
 use Rattle.pass.specs.declared.Outcome.the-variants.{Fault}
 use Rattle.pass.proofs.LinkLaws.{Jump, jump}
@@ -83,9 +86,50 @@ module _ {p a m : List ℕ} {v : ℕ} (r : Ready p a m v) (bad : ℕ) (told : ba
       go zero f = absurd (omega (arith, r .node))
       go (suc fuel) f = rw (ne-eqb (badAnswer (kindOf (getD p (2 * v) 0)) (getD a v 0)) 0 (λ q. e (told ∙ q)), told)
 
+-- a task ends by its answer alone
+module _ (x : ℕ) where
+  task-right : (eqb x 1 ≡ true) ⊎ (eqb x 2 ≡ true) → (f : ℕ → List ℕ → Settled) (m : List ℕ) → settleBy task x f [] m ≡ record { outcome = taskEnd x; marks = m }
+  unfolding settleBy settleIf close walk unwalked nothing endOf ending badPick closes badAnswer oneOrTwo taskEnd
+  task-right e f m = ⊎-elim (λ h. rw (eqb-true x 1 h)) (λ h. rw (eqb-true x 2 h)) e
+
+  module _ (e : eqb x 1 ≡ false) (h : eqb x 2 ≡ false) where
+    wrong : badAnswer task x ≡ 13
+    unfolding badAnswer oneOrTwo
+    wrong = rw (e, h)
+
+    ends : taskEnd x ≡ Pass.fault (badAnswer task x)
+    unfolding taskEnd
+    ends = rw (e, h, wrong)
+
+    task-wrong : (f : ℕ → List ℕ → Settled) (m : List ℕ) → settleBy task x f [] m ≡ record { outcome = taskEnd x; marks = m }
+    unfolding settleBy settleIf
+    task-wrong f m = rw (ne-eqb (badAnswer task x) 0 (λ q. omega (arith, wrong)), ends)
+
+task-kind : (p : List ℕ) (v : ℕ) → getD p (2 * v) 0 ≡ 1 → kind p v ≡ task
+unfolding kind kindByte kindOf
+task-kind p v e = rw e
+
+pub task-ends : {p a m : List ℕ} {v : ℕ} → Ready p a m v → getD p (2 * v) 0 ≡ 1 → (o : Outcome) → outcomeOf o ≡ taskEnd (getD a v 0) → Settles p a m v m o
+unfolding settle
+task-ends {p} {a} {m} {v} r is o e = record { by = go }
+  where
+    same : kind p v ≡ task
+    same = task-kind p v is
+
+    by : (f : ℕ → List ℕ → Settled) → settleBy task (getD a v 0) f [] m ≡ record { outcome = taskEnd (getD a v 0); marks = m }
+    by f = cases (decided (eqb (getD a v 0) 1)) (λ g. task-right (getD a v 0) (inl g) f m)
+        (λ g. cases (decided (eqb (getD a v 0) 2)) (λ h. task-right (getD a v 0) (inr h) f m) (λ h. task-wrong (getD a v 0) g h f m))
+
+    go : (fuel : ℕ) → size p ≤ v + fuel → settle p a fuel v m ≡ record { outcome = outcomeOf o; marks = m }
+    go zero f = absurd (omega (arith, r .node))
+    go (suc fuel) f = rw (e, same, r .accepted .tasks v (r .node) same) (by (settle p a fuel))
+
 -- a turn's bounds
-pub record Turn (p s : List ℕ) (v : ℕ) (m : List ℕ) (t : Tally) (c : ℕ) : Type 0 where
+pub record Turn (p a s : List ℕ) (v : ℕ) (m : List ℕ) (t : Tally) (c : ℕ) : Type 0 where
   pub within : c < size p
+  pub small : c ≤ 160
+  pub index : 2 * c < length p
+  pub answered : c < length a
   pub linked : c < length s
   pub written : c < length m
   pub few : t .places < 255
@@ -93,12 +137,15 @@ pub record Turn (p s : List ℕ) (v : ℕ) (m : List ℕ) (t : Tally) (c : ℕ) 
 
 module _ {p a f s m₀ : List ℕ} {v k x n : ℕ} {m : List ℕ} {t : Tally} {c : ℕ} (h : Walking p a f s m₀ v k x n m t c) where
   module _ (l : c < n) where
-    pub turn-bounds : Turn p s v m t c
+    pub turn-bounds : Turn p a s v m t c
     turn-bounds =
         let w : c < size p = omega (arith, h .block .size-is) in
         let b = h .block .ready .accepted .below c (h .low) w in
         record {
           within = w;
+          small = omega (arith, h .block .ready .accepted .few);
+          index = omega (arith, h .block .ready .accepted .even);
+          answered = omega (arith, h .block .ready .answers);
           linked = omega (arith, h .block .linked .nexts);
           written = omega (arith, h .long);
           few = omega (arith, h .few, h .block .ready .accepted .few);

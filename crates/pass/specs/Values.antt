@@ -20,6 +20,10 @@ outcomeOf (Fault n) = Pass.fault n
 abbrev pub tallyOf : Tally → Pass.Tally
 tallyOf t = record { places = t .places; worked = t .worked; broke = t .broke; chosen = t .chosen; wrong = t .wrong }
 
+-- F1, F5: the end of a task, by its answer
+unfoldable pub taskEnd : ℕ → Pass.Outcome
+taskEnd a = cond (eqb a 1) Pass.works (cond (eqb a 2) Pass.breaks (Pass.fault 13))
+
 -- node v can be settled: an accepted plan, one answer and one mark a node
 pub record Ready (p a m : List ℕ) (v : ℕ) : Type 0 where
   pub accepted : Accepted p

@@ -6,7 +6,7 @@ ghost use lib.ListN.{length, replicate};
 ghost use Rattle.plan.specs.Plan.{kindOf, size};
 ghost use Rattle.plan.specs.Check.{Accepted};
 ghost use Rattle.pass.specs.Pass.{goes, skip, note, childMark, badAnswer, badPick, closes, endOf, numberOf, rootMark, passed, passInto};
-ghost use Rattle.pass.specs.Values.{outcomeOf, tallyOf, Ready, linkAt, Linked, Settles};
+ghost use Rattle.pass.specs.Values.{outcomeOf, tallyOf, taskEnd, Ready, linkAt, Linked, Settles};
 ghost use Rattle.pass.specs.Record.{class};
 
 // How a node ends; a fault has its number.
@@ -167,6 +167,19 @@ fn link(links: &[u8], i: usize, n: usize) -> usize
     if c == 0 { n } else { c }
 }
 
+// The end of a task.
+fn task_end(answer: u8) -> Outcome
+    ensures { λ r. ⌜ outcomeOf r ≡ taskEnd answer ⌝ }
+{
+    if answer == 1 {
+        return Outcome::Works;
+    }
+    if answer == 2 {
+        return Outcome::Breaks;
+    }
+    Outcome::Fault(13)
+}
+
 // Settles a node: leaves the marks of the nodes below it, and answers how it ended.
 fn settle(
     plan: &[u8],
@@ -197,6 +210,14 @@ fn settle(
     while c < n {
         if !reaches(kind, answer, t) {
             t = skipped(t);
+            c = link(next, c, n);
+            continue;
+        }
+        // most nodes are tasks, and a call costs more than all else here
+        if plan[2 * c] == 1 {
+            let o = task_end(answers[c]);
+            marks[c] = child_mark(kind, answer, t, o);
+            t = noted(answer, t, o);
             c = link(next, c, n);
             continue;
         }

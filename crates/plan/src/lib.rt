@@ -85,18 +85,18 @@ fn kind_ok(plan: &[u8], v: usize) -> bool
     1 <= k && k <= 7
 }
 
+// Here and below a loop runs on behind a failed test: that is faster where none fails.
 fn kinds_ok(plan: &[u8]) -> bool
     ensures { λ r. ⌜ r ≡ atAll kindOk (now (plan .entry)) ⌝ }
 {
     let n = node_count(plan);
+    let mut ok = true;
     let mut v = 0;
     while v < n {
-        if !kind_ok(plan, v) {
-            return false;
-        }
+        ok = ok & kind_ok(plan, v);
         v += 1;
     }
-    true
+    ok
 }
 
 fn parent_ok(plan: &[u8], v: usize) -> bool
@@ -114,14 +114,13 @@ fn parents_ok(plan: &[u8]) -> bool
     ensures { λ r. ⌜ r ≡ atAll parentOk (now (plan .entry)) ⌝ }
 {
     let n = node_count(plan);
+    let mut ok = true;
     let mut v = 0;
     while v < n {
-        if !parent_ok(plan, v) {
-            return false;
-        }
+        ok = ok & parent_ok(plan, v);
         v += 1;
     }
-    true
+    ok
 }
 
 fn under_block(plan: &[u8], v: usize) -> bool
@@ -135,23 +134,35 @@ fn under_block(plan: &[u8], v: usize) -> bool
     kind_at(plan, u) != 1
 }
 
-// Leaves each node's number of children in `out`, which is one zero a node, and answers whether no parent is a task. Here and below the loop
-// runs on behind a failed test: that is faster where none fails.
-fn child_counts(plan: &[u8], out: &mut [u8]) -> bool
-    requires { ⌜ Ordered (now plan) × (now out ≡ replicate (size (now plan)) 0) ⌝ }
-    ensures { λ r. ⌜ r ≡ atAll underBlock (now (plan .entry)) ⌝ }
-    ensures { λ _. ⌜ now (out .exit) ≡ table (childCount (now (plan .entry))) (size (now (plan .entry))) ⌝ }
+// Whether no parent is a task, and whether no depth is above 32.
+struct Told {
+    blocks: bool,
+    shallow: bool,
+}
+
+// Leaves each node's number of children in `counts`, which is one zero a node, and its depth in `depths`, one byte a node. One loop for all
+// of it: it waits for `counts` at every turn, and the rest costs nothing.
+fn survey(plan: &[u8], counts: &mut [u8], depths: &mut [u8]) -> Told
+    requires { ⌜ Ordered (now plan) × (now counts ≡ replicate (size (now plan)) 0) × (length (now depths) ≡ size (now plan)) ⌝ }
+    ensures { λ r. ⌜ (r .blocks ≡ atAll underBlock (now (plan .entry))) × (r .shallow ≡ atAll depthOk (now (plan .entry))) ⌝ }
+    ensures { λ _. ⌜ now (counts .exit) ≡ table (childCount (now (plan .entry))) (size (now (plan .entry))) ⌝ }
+    ensures { λ _. ⌜ now (depths .exit) ≡ table (depth (now (plan .entry))) (size (now (plan .entry))) ⌝ }
 {
     let n = node_count(plan);
-    let mut ok = true;
+    let mut blocks = true;
+    let mut shallow = true;
+    depths[0] = 1;
     let mut v = 1;
     while v < n {
-        ok = ok & under_block(plan, v);
+        blocks = blocks & under_block(plan, v);
         let u = parent_at(plan, v);
-        out[u] = out[u] + 1;
+        counts[u] = counts[u] + 1;
+        let d = depths[u] + 1;
+        shallow = shallow & (d <= 32);
+        depths[v] = d;
         v += 1;
     }
-    ok
+    Told { blocks, shallow }
 }
 
 fn count_ok(k: u8, n: u8) -> bool
@@ -178,35 +189,6 @@ fn counts_match(plan: &[u8], counts: &[u8]) -> bool
     ok
 }
 
-// Leaves each node's depth in `out`, which is one byte a node, and answers whether all are within the limit.
-fn depths(plan: &[u8], out: &mut [u8]) -> bool
-    requires { ⌜ Ordered (now plan) × (length (now out) ≡ size (now plan)) ⌝ }
-    ensures { λ r. ⌜ r ≡ atAll depthOk (now (plan .entry)) ⌝ }
-    ensures { λ _. ⌜ now (out .exit) ≡ table (depth (now (plan .entry))) (size (now (plan .entry))) ⌝ }
-{
-    let n = node_count(plan);
-    let mut ok = true;
-    out[0] = 1;
-    let mut v = 1;
-    while v < n {
-        let u = parent_at(plan, v);
-        let d = out[u] + 1;
-        ok = ok & (d <= 32);
-        out[v] = d;
-        v += 1;
-    }
-    ok
-}
-
-fn depths_ok(plan: &[u8]) -> bool
-    requires { ⌜ Ordered (now plan) ⌝ }
-    ensures { λ r. ⌜ r ≡ atAll depthOk (now (plan .entry)) ⌝ }
-{
-    let n = node_count(plan);
-    let mut buf = [0u8; 160];
-    depths(plan, &mut buf[..n])
-}
-
 // The number of the first test that the plan fails, and 0 where it passes all.
 pub fn check(plan: &[u8]) -> u8
     ensures { λ r. ⌜ r ≡ checkNumber (now (plan .entry)) ⌝ }
@@ -222,13 +204,15 @@ pub fn check(plan: &[u8]) -> u8
     }
     let n = node_count(plan);
     let mut counts = [0u8; 160];
-    if !child_counts(plan, &mut counts[..n]) {
+    let mut depths = [0u8; 160];
+    let told = survey(plan, &mut counts[..n], &mut depths[..n]);
+    if !told.blocks {
         return 4;
     }
     if !counts_match(plan, &counts[..n]) {
         return 5;
     }
-    if !depths_ok(plan) {
+    if !told.shallow {
         return 6;
     }
     0

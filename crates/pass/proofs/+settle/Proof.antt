@@ -1,10 +1,10 @@
 -- The loop has walked the node's children below c; the call of itself is on a higher node. Assumes nothing.
-use mathlib.Core.Path.{_≡_, sym, _∙_}
+use mathlib.Core.Path.{_≡_, refl, sym, _∙_}
 use Prim.Native.Nat.{ℕ, _-_, _<_}
 use native.Mathlib.Omega.{arith}
 use Rattle.plan.specs.Plan.{size}
 use Rattle.pass.specs.Values.{tallyOf}
-use Rattle.pass.proofs.SettleLaws.{Walking, Turn, walk-begins, settle-refused, turn-bounds, turn-ready, turn-less, turn-skip, turn-enter, walk-ends}
+use Rattle.pass.proofs.SettleLaws.{Walking, Turn, walk-begins, settle-refused, turn-bounds, turn-ready, turn-less, task-ends, turn-skip, turn-enter, walk-ends}
 use borrow.Fn.Kinds.{In}
 use borrow.Fn.PlainCycle.{Measures, is, falls, and}
 use Rattle.pass.proofs.settle.Reads as settle
@@ -17,6 +17,7 @@ use Rattle.pass.proofs.link.Reads as link-reads
 use Rattle.pass.proofs.noted.Reads as noted-reads
 use Rattle.pass.proofs.reaches.Reads as reaches-reads
 use Rattle.pass.proofs.skipped.Reads as skipped-reads
+use Rattle.pass.proofs.task_end.Reads as task-end-reads
 use Rattle.pass.proofs.+settle.{statement}
 use Rattle.pass.proofs.+settle.Tie.{close}
 
@@ -39,12 +40,14 @@ callees t = (
   reaches-reads.Learnt,
   skipped-reads.Asked,
   skipped-reads.Learnt,
-  below t,
-  settle.Post,
+  task-end-reads.Asked,
+  task-end-reads.Learnt,
   child-mark-reads.Asked,
   child-mark-reads.Learnt,
   noted-reads.Asked,
   noted-reads.Learnt,
+  below t,
+  settle.Post,
   ended-reads.Asked,
   ended-reads.Learnt,
 )
@@ -60,7 +63,7 @@ abbrev μ : lts.MeasureT-loop
 
 -- a turn's bounds
 turn : (t : ℕ) (c : lts.In-loop (callees t) (here t) settle.Post Inv μ) →
-    Turn (c .before .before .before .before .before .before .before .before .before .before .before .before .args .plan .now) (c .before .before .before .before .before .before .before .before .before .before .before .before .args .next .now) (c .before .before .before .before .before .before .before .before .before .before .before .before .args .node)
+    Turn (c .before .before .before .before .before .before .before .before .before .before .before .before .args .plan .now) (c .before .before .before .before .before .before .before .before .before .before .before .before .args .answers .now) (c .before .before .before .before .before .before .before .before .before .before .before .before .args .next .now) (c .before .before .before .before .before .before .before .before .before .before .before .before .args .node)
     (c .before .loop .marks) (tallyOf (c .before .loop .t)) (c .before .loop .c)
 turn t c = turn-bounds (c .before .loop .inv) (c .loop-test .taken)
 
@@ -105,17 +108,23 @@ loop-again t c =
     _ (c .before .before .before .reaches .ensures) (c .before .before .if2 .taken)
     _ (c .before .skipped .ensures)
 
-settle-requires : (t : ℕ) → lts.Need-settle-requires (callees t) (here t) settle.Post Inv μ
-settle-requires t c κs =
-    let above = c .before .before .before .before .before .before .before .before .before .before .before .before .before .before .before .pre .0 in
-    let b = turn t (c .before .before .before) in
-    (below-at above (b .falls), turn-ready (c .before .before .before .before .loop .inv) (c .before .before .before .loop-test .taken))
+mul-if3 : (t : ℕ) → lts.Need-mul-if3 (callees t) (here t) settle.Post Inv μ
+mul-if3 t c = omega (arith, turn t (c .before .before) .small)
+
+shared-slice-read-if3 : (t : ℕ) → lts.Need-shared-slice-read-if3 (callees t) (here t) settle.Post Inv μ
+shared-slice-read-if3 t c = omega (arith, turn t (c .before .before .before) .index)
+
+shared-slice-read-task-end : (t : ℕ) → lts.Need-shared-slice-read-task-end (callees t) (here t) settle.Post Inv μ
+shared-slice-read-task-end t c = omega (arith, turn t (c .before .before .before .before .before) .answered)
+
+task-end-requires : (t : ℕ) → lts.Need-task-end-requires (callees t) (here t) settle.Post Inv μ
+task-end-requires t c κs = tt
 
 child-mark-requires : (t : ℕ) → lts.Need-child-mark-requires (callees t) (here t) settle.Post Inv μ
 child-mark-requires t c κs = turn t (c .before .before .before .before .before .before) .few
 
 slice-write-marks : (t : ℕ) → lts.Need-slice-write-marks (callees t) (here t) settle.Post Inv μ
-slice-write-marks t c = omega (arith, turn t (c .before .before .before .before .before .before .before) .written, c .before .before .before .settle .kept .1 .1 .1 .1 .0)
+slice-write-marks t c = omega (arith, turn t (c .before .before .before .before .before .before .before) .written)
 
 noted-requires : (t : ℕ) → lts.Need-noted-requires (callees t) (here t) settle.Post Inv μ
 noted-requires t c κs = turn t (c .before .before .before .before .before .before .before) .few
@@ -128,11 +137,42 @@ loop-less-2 t c = turn-less (c .before .before .before .before .before .before .
 
 loop-again-2 : (t : ℕ) → lts.Need-loop-again-2 (callees t) (here t) settle.Post Inv μ
 loop-again-2 t c =
-    turn-enter (c .before .before .before .before .before .before .before .before .before .before .loop .inv) (c .before .before .before .before .before .before .before .before .before .loop-test .taken) _ (c .link3 .ensures)
+    let i = c .before .before .before .before .before .before .before .before .before .before .loop .inv in
+    let l = c .before .before .before .before .before .before .before .before .before .loop-test .taken in
+    turn-enter i l _ (c .link3 .ensures)
     _ (c .before .before .before .before .before .before .before .before .reaches .ensures) (c .before .before .before .before .before .before .before .if2 .left)
-    _ _ (c .before .before .before .before .before .settle .kept .1 .1 .1 .1 .0) (c .before .before .before .before .before .settle .ensures)
+    (c .before .before .before .task-end .result) _ refl (task-ends (turn-ready i l .0) (c .before .before .before .before .before .if3 .taken) (c .before .before .before .task-end .result) (c .before .before .before .task-end .ensures))
     _ (c .before .before .child-mark .ensures)
     _ (c .before .noted .ensures)
+
+settle-requires : (t : ℕ) → lts.Need-settle-requires (callees t) (here t) settle.Post Inv μ
+settle-requires t c κs =
+    let above = c .before .before .before .before .before .before .before .before .before .before .before .before .before .before .before .before .before .pre .0 in
+    let b = turn t (c .before .before .before .before .before) in
+    (below-at above (b .falls), turn-ready (c .before .before .before .before .before .before .loop .inv) (c .before .before .before .before .before .loop-test .taken))
+
+child-mark-requires-2 : (t : ℕ) → lts.Need-child-mark-requires-2 (callees t) (here t) settle.Post Inv μ
+child-mark-requires-2 t c κs = turn t (c .before .before .before .before .before .before .before .before) .few
+
+slice-write-marks-2 : (t : ℕ) → lts.Need-slice-write-marks-2 (callees t) (here t) settle.Post Inv μ
+slice-write-marks-2 t c = omega (arith, turn t (c .before .before .before .before .before .before .before .before .before) .written, c .before .before .before .settle .kept .1 .1 .1 .1 .0)
+
+noted-requires-2 : (t : ℕ) → lts.Need-noted-requires-2 (callees t) (here t) settle.Post Inv μ
+noted-requires-2 t c κs = turn t (c .before .before .before .before .before .before .before .before .before) .few
+
+link-requires-4 : (t : ℕ) → lts.Need-link-requires-4 (callees t) (here t) settle.Post Inv μ
+link-requires-4 t c κs = turn t (c .before .before .before .before .before .before .before .before .before .before) .linked
+
+loop-less-3 : (t : ℕ) → lts.Need-loop-less-3 (callees t) (here t) settle.Post Inv μ
+loop-less-3 t c = turn-less (c .before .before .before .before .before .before .before .before .before .before .before .before .loop .inv) (c .before .before .before .before .before .before .before .before .before .before .before .loop-test .taken) _ (c .link4 .ensures)
+
+loop-again-3 : (t : ℕ) → lts.Need-loop-again-3 (callees t) (here t) settle.Post Inv μ
+loop-again-3 t c =
+    turn-enter (c .before .before .before .before .before .before .before .before .before .before .before .before .loop .inv) (c .before .before .before .before .before .before .before .before .before .before .before .loop-test .taken) _ (c .link4 .ensures)
+    _ (c .before .before .before .before .before .before .before .before .before .before .reaches .ensures) (c .before .before .before .before .before .before .before .before .before .if2 .left)
+    _ _ (c .before .before .before .before .before .settle .kept .1 .1 .1 .1 .0) (c .before .before .before .before .before .settle .ensures)
+    _ (c .before .before .child-mark2 .ensures)
+    _ (c .before .noted2 .ensures)
 
 ended-requires : (t : ℕ) → lts.Need-ended-requires (callees t) (here t) settle.Post Inv μ
 ended-requires t c κs = tt
@@ -161,13 +201,23 @@ pub +settle-spec : {M : Type 1} → statement M
     (link-requires-2 t)
     (loop-less t)
     (loop-again t)
-    (settle-requires t)
+    (mul-if3 t)
+    (shared-slice-read-if3 t)
+    (shared-slice-read-task-end t)
+    (task-end-requires t)
     (child-mark-requires t)
     (slice-write-marks t)
     (noted-requires t)
     (link-requires-3 t)
     (loop-less-2 t)
     (loop-again-2 t)
+    (settle-requires t)
+    (child-mark-requires-2 t)
+    (slice-write-marks-2 t)
+    (noted-requires-2 t)
+    (link-requires-4 t)
+    (loop-less-3 t)
+    (loop-again-3 t)
     (ended-requires t)
     (same-length t)
     (returns-2 t)
