@@ -1,12 +1,9 @@
--- What the writers of clauses leave in a buffer; only private functions' contracts cite it. Definitions only.
+-- The bytes of clauses as the writers write them; only private functions' contracts cite it. Definitions only.
+use mathlib.Core.Bool.{cond}
 use mathlib.Core.List.{List, [], _∷_, _++_}
-use Prim.Native.Nat.{ℕ, _+_, _≤_}
-use lib.ListN.{length}
-
--- few nodes, and room for a longest guard: 1 + 32 * 7 + 1 + 32 * 2 bytes
-pub record Room (cs b : List ℕ) : Type 0 where
-  pub few : length cs ≤ 32
-  pub room : 290 ≤ length b
+use Prim.Native.Nat.{ℕ, _+_}
+use lib.Dec.{eqb}
+use lib.ListN.{length, take}
 
 -- the events ks of c, and k of each of cs
 unfoldable pub pairs : List ℕ → ℕ → List ℕ
@@ -28,12 +25,23 @@ eachClause ks (c ∷ cs) = clause ks c ++ eachClause ks cs
 unfoldable pub anyClause : ℕ → List ℕ → List ℕ
 anyClause k cs = length cs ∷ anyPairs k cs
 
--- guards: [k of v]; [ks] for each of cs, with the count of the clauses that follow besides; the same with [k of any of as] behind
-abbrev pub oneBytes : ℕ → ℕ → List ℕ
-oneBytes k v = 1 ∷ 1 ∷ k ∷ v ∷ []
+-- the first n of [k, abort, turned down]
+abbrev pub codesOf : ℕ → ℕ → List ℕ
+codesOf k n = take n (k ∷ 4 ∷ 8 ∷ [])
 
-unfoldable pub eachBytes : List ℕ → List ℕ → ℕ → List ℕ
-eachBytes ks cs more = (length cs + more) ∷ eachClause ks cs
+-- the parts of a row, which the code 0, or no codes, leave out: [k of v], [the first n of k, abort, turned down] for each of cs, [k of any of cs]
+unfoldable pub onePart : ℕ → ℕ → List ℕ
+onePart k v = cond (eqb k 0) [] (clause (k ∷ []) v)
 
-unfoldable pub eachAnyBytes : List ℕ → List ℕ → ℕ → List ℕ → List ℕ
-eachAnyBytes ks cs k others = eachBytes ks cs 1 ++ anyClause k others
+unfoldable pub eachPart : ℕ → ℕ → List ℕ → List ℕ
+eachPart k n cs = cond (eqb n 0) [] (eachClause (codesOf k n) cs)
+
+unfoldable pub anyPart : ℕ → List ℕ → List ℕ
+anyPart k cs = cond (eqb k 0) [] (anyClause k cs)
+
+-- how many clauses they are: one more where there is a code, and all where there are codes
+unfoldable pub more : ℕ → ℕ → ℕ
+more k n = cond (eqb k 0) n (n + 1)
+
+unfoldable pub allOf : ℕ → ℕ → ℕ
+allOf n all = cond (eqb n 0) 0 all
