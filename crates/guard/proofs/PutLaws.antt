@@ -5,14 +5,16 @@ use Prim.Native.Nat.{ℕ, zero, suc, _+_, _*_, _<_, _≤_}
 use native.Mathlib.Nat.{zero-add}
 use native.Mathlib.Numerals.{add-one}
 use native.Mathlib.Omega.{arith}
-use borrow.Author.Tests.{ne-eqb}
+use borrow.Author.Tests.{ne-eqb, eqb-true, eqb-false}
+use lib.Dec.{eqb}
+use Rattle.lists.proofs.Logic.{cases, decided}
 use lib.ListN.{length, length-append, set, take, drop, getD}
 use lib.Seq.{sets-eq, length-sets, take-at}
 use Rattle.lists.specs.Put.{Put}
 use Rattle.lists.proofs.PutLaws.{put-one, put-two, put-append, Left, left-none, left-put, drop-turn}
 use Rattle.guard.specs.Row.{rowBytes}
 use Rattle.guard.specs.declared.table.Row.{Row}
-use Rattle.guard.specs.Put.{pairs, anyPairs, clause, eachClause, anyClause, codesOf, onePart, eachPart, anyPart, more, allOf}
+use Rattle.guard.specs.Put.{pairs, anyPairs, clause, eachClause, anyClause, codesOf, firstBytes, anyPart, moreOf}
 
 -- the same bytes, under another name
 pub put-as : {x y b : List ℕ} {w : ℕ} {b′ : List ℕ} {w′ : ℕ} → y ≡ x → Put x b w b′ w′ → Put y b w b′ w′
@@ -81,28 +83,6 @@ pub any-none : (k : ℕ) (cs b : List ℕ) (at : ℕ) → k ≡ 0 → Put (anyPa
 unfolding anyPart
 any-none k cs b at e = rw e (record { place = omega arith; held = refl })
 
--- the other parts: [k of v], and the clauses of cs
-pub one-none : (k v : ℕ) (b : List ℕ) (at : ℕ) → k ≡ 0 → Put (onePart k v) b at b at
-unfolding onePart
-one-none k v b at e = rw e (record { place = omega arith; held = refl })
-
-module _ (k v : ℕ) (n : k ≡ 0 → ⊥) where
-  pub one-some : onePart k v ≡ clause (codesOf k 1) v
-  unfolding onePart
-  one-some = rw (ne-eqb k 0 n)
-
-  pub one-length : length (onePart k v) ≡ 3
-  unfolding onePart clause pairs
-  one-length = rw (ne-eqb k 0 n)
-
-pub each-none : (k n : ℕ) (cs b : List ℕ) (at : ℕ) → n ≡ 0 → Put (eachPart k n cs) b at b at
-unfolding eachPart
-each-none k n cs b at e = rw e (record { place = omega arith; held = refl })
-
-pub each-whole : (k n : ℕ) (cs : List ℕ) → (n ≡ 0 → ⊥) → eachPart k n cs ≡ eachClause (codesOf k n) cs
-unfolding eachPart
-each-whole k n cs h = rw (ne-eqb n 0 h)
-
 -- a clause of n codes, two bytes each
 pub clause-length : (k n c : ℕ) → n ≤ 3 → length (clause (codesOf k n) c) ≡ 1 + 2 * n
 unfolding clause pairs
@@ -142,40 +122,43 @@ module _ (k c : ℕ) (b : List ℕ) (at : ℕ) {n : ℕ} where
   unfolding clause pairs
   clause-three e = rw e (third-two k c b at)
 
--- how many clauses
-pub all-none : (n all : ℕ) → n ≡ 0 → allOf n all ≡ 0
-unfolding allOf
-all-none n all e = rw e
+-- the first bytes of a row, by what it has
+module _ (k v n more : ℕ) (cs : List ℕ) where
+  pub first-none : k ≡ 0 → firstBytes k v n more cs ≡ more ∷ []
+  unfolding firstBytes
+  first-none e = rw e
 
-pub all-some : (n all : ℕ) → (n ≡ 0 → ⊥) → allOf n all ≡ all
-unfolding allOf
-all-some n all h = rw (ne-eqb n 0 h)
+  pub first-one : (k ≡ 0 → ⊥) → n ≡ 0 → firstBytes k v n more cs ≡ (1 + more) ∷ clause (codesOf k 1) v
+  unfolding firstBytes
+  first-one h e = rw (ne-eqb k 0 h, e)
 
-pub more-none : (k n : ℕ) → k ≡ 0 → more k n ≡ n
-unfolding more
-more-none k n e = rw e
+  pub first-each : (k ≡ 0 → ⊥) → (n ≡ 0 → ⊥) → firstBytes k v n more cs ≡ (length cs + more) ∷ eachClause (codesOf k n) cs
+  unfolding firstBytes
+  first-each h e = rw (ne-eqb k 0 h, ne-eqb n 0 e)
 
-pub more-some : (k n : ℕ) → (k ≡ 0 → ⊥) → more k n ≡ n + 1
-unfolding more
-more-some k n h = rw (ne-eqb k 0 h)
+pub first-some : (k v n more : ℕ) (cs : List ℕ) → 1 ≤ length (firstBytes k v n more cs)
+first-some k v n more cs = cases (decided (eqb k 0)) (λ e. omega (arith, ap length (first-none k v n more cs (eqb-true k 0 e))))
+    (λ h. cases (decided (eqb n 0)) (λ e. omega (arith, ap length (first-one k v n more cs (eqb-false k 0 h) (eqb-true n 0 e))))
+    (λ e. omega (arith, ap length (first-each k v n more cs (eqb-false k 0 h) (eqb-false n 0 e)))))
 
--- a row: the count, and the parts one after another
-pub row-length : (r : Row) (cs : List ℕ) → length (rowBytes r cs) ≡ 1 + (length (onePart (r .one) (r .node)) + (length (eachPart (r .first) (r .codes) cs) + length (anyPart (r .any) cs)))
-unfolding rowBytes
-row-length r cs =
-    let one = onePart (r .one) (r .node) in
-    let each = eachPart (r .first) (r .codes) cs in
-    let any = anyPart (r .any) cs in
-    omega (arith, length-append one (each ++ any), length-append each any)
+pub more-none : (k : ℕ) → k ≡ 0 → moreOf k ≡ 0
+unfolding moreOf
+more-none k e = rw e
 
-pub row-put : (r : Row) (cs b : List ℕ) {m : ℕ} {b₁ : List ℕ} {w₁ : ℕ} {b₂ : List ℕ} {w₂ : ℕ} {b₃ : List ℕ} {w₃ : ℕ} → m ≡ more (r .one) (more (r .any) (allOf (r .codes) (length cs)))
-    → Put (onePart (r .one) (r .node)) (set b 0 m) 1 b₁ w₁ → Put (eachPart (r .first) (r .codes) cs) b₁ w₁ b₂ w₂ → Put (anyPart (r .any) cs) b₂ w₂ b₃ w₃ → Put (rowBytes r cs) b 0 b₃ w₃
-unfolding rowBytes
-row-put r cs b e h k l =
-    let one = onePart (r .one) (r .node) in
-    let each = eachPart (r .first) (r .codes) cs in
-    let any = anyPart (r .any) cs in
-    put-first (put-append one (each ++ any) _ _ (rw e at h) (put-append each any _ _ k l))
+pub more-some : (k : ℕ) → (k ≡ 0 → ⊥) → moreOf k ≡ 1
+unfolding moreOf
+more-some k h = rw (ne-eqb k 0 h)
+
+-- a row: its first bytes, and behind them the last clause
+module _ (r : Row) (cs : List ℕ) {more : ℕ} (is : more ≡ moreOf (r .3)) where
+  pub row-length : length (rowBytes r cs) ≡ length (firstBytes (r .0) (r .1) (r .2) more cs) + length (anyPart (r .3) cs)
+  unfolding rowBytes
+  row-length = rw is (length-append (firstBytes (r .0) (r .1) (r .2) (moreOf (r .3)) cs) (anyPart (r .3) cs))
+
+  pub row-put : {b b₁ : List ℕ} {w₁ : ℕ} {b₂ : List ℕ} {w₂ : ℕ} → Put (firstBytes (r .0) (r .1) (r .2) more cs) b 0 b₁ w₁ → Put (anyPart (r .3) cs) b₁ w₁ b₂ w₂
+      → Put (rowBytes r cs) b 0 b₂ w₂
+  unfolding rowBytes
+  row-put h k = put-append (firstBytes (r .0) (r .1) (r .2) (moreOf (r .3)) cs) (anyPart (r .3) cs) _ _ (rw is at h) k
 
 -- what was written at the front of z is the part of s up to n
 module _ {x z s : List ℕ} {n : ℕ} (h : Put x z 0 s n) (l : length x ≤ length z) where

@@ -29,19 +29,15 @@ anyClause k cs = length cs ∷ anyPairs k cs
 abbrev pub codesOf : ℕ → ℕ → List ℕ
 codesOf k n = take n (k ∷ 4 ∷ 8 ∷ [])
 
--- the parts of a row, which the code 0, or no codes, leave out: [k of v], [the first n of k, abort, turned down] for each of cs, [k of any of cs]
-unfoldable pub onePart : ℕ → ℕ → List ℕ
-onePart k v = cond (eqb k 0) [] (clause (k ∷ []) v)
+-- the number of clauses, `more` of them behind these, and these: none for the code 0, [k of v] where n is 0, else one for each of cs
+unfoldable pub firstBytes : ℕ → ℕ → ℕ → ℕ → List ℕ → List ℕ
+firstBytes k v n more cs =
+    cond (eqb k 0) (more ∷ [])
+    (cond (eqb n 0) ((1 + more) ∷ clause (codesOf k 1) v) ((length cs + more) ∷ eachClause (codesOf k n) cs))
 
-unfoldable pub eachPart : ℕ → ℕ → List ℕ → List ℕ
-eachPart k n cs = cond (eqb n 0) [] (eachClause (codesOf k n) cs)
-
+-- [k of any of cs], which the code 0 leaves out, and how many clauses that is
 unfoldable pub anyPart : ℕ → List ℕ → List ℕ
 anyPart k cs = cond (eqb k 0) [] (anyClause k cs)
 
--- how many clauses they are: one more where there is a code, and all where there are codes
-unfoldable pub more : ℕ → ℕ → ℕ
-more k n = cond (eqb k 0) n (n + 1)
-
-unfoldable pub allOf : ℕ → ℕ → ℕ
-allOf n all = cond (eqb n 0) 0 all
+unfoldable pub moreOf : ℕ → ℕ
+moreOf k = cond (eqb k 0) 0 1

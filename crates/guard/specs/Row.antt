@@ -4,13 +4,12 @@ use mathlib.Core.Bool.{Bool, cond, not, _&&_}
 use mathlib.Core.List.{List, [], _∷_, _++_}
 use Prim.Native.Nat.{ℕ, pred, _≤_}
 use lib.Dec.{eqb}
-use lib.ListN.{length}
 use Rattle.lists.specs.Seq.{keep, upFrom, lastOr}
 use Rattle.plan.specs.Plan.{Kind, xor, isKind, size, parent}
 use Rattle.event.specs.Event.{Code, start, offer, commit, abort, answered-yes, answered-no, pick, down}
 use Rattle.guard.specs.Guard.{Guard, one, anyOf, beforeIn, startBy, finishBy, abortBy}
 use Rattle.guard.specs.Bytes.{encode}
-use Rattle.guard.specs.Put.{onePart, eachPart, anyPart, more, allOf}
+use Rattle.guard.specs.Put.{firstBytes, anyPart, moreOf}
 use Rattle.guard.specs.declared.table.Row.{Row}
 
 -- the children of u but one; the root is nobody's child, so 0 leaves none out
@@ -44,10 +43,8 @@ near down v cs = beforeIn v cs v
 
 -- the bytes of a row that speaks of cs, and that it is the row of the guard g
 unfoldable pub rowBytes : Row → List ℕ → List ℕ
-rowBytes r cs =
-    more (r .one) (more (r .any) (allOf (r .codes) (length cs)))
-    ∷ (onePart (r .one) (r .node) ++ (eachPart (r .first) (r .codes) cs ++ anyPart (r .any) cs))
+rowBytes r cs = firstBytes (r .0) (r .1) (r .2) (moreOf (r .3)) cs ++ anyPart (r .3) cs
 
 pub record RowOf (r : Row) (cs : List ℕ) (g : Guard) : Type 0 where
-  pub few : r .codes ≤ 3
+  pub few : r .2 ≤ 3
   pub bytes : rowBytes r cs ≡ encode g

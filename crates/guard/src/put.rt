@@ -4,7 +4,7 @@ ghost use mathlib.Core.Path.{_≡_};
 ghost use Prim.Native.Nat.{_+_, _*_, _≤_};
 ghost use lib.ListN.{length};
 ghost use Rattle.lists.specs.Put.{Put};
-ghost use Rattle.guard.specs.Put.{clause, codesOf, eachPart, onePart, anyPart, more, allOf};
+ghost use Rattle.guard.specs.Put.{clause, codesOf, firstBytes, anyPart};
 ghost use Rattle.guard.specs.Row.{rowBytes};
 
 // The clause [the first n of first, abort, turned down] of c.
@@ -28,32 +28,27 @@ fn put_clause(first: u8, n: u8, c: u8, buf: &mut [u8], at: usize) -> usize
     at + 7
 }
 
-// That clause for each of cs, and none where n is 0.
-fn put_each(first: u8, n: u8, cs: &[u8], buf: &mut [u8], at: usize) -> usize
-    requires { ⌜ (n ≤ 3) × (at + length (eachPart first n (now cs)) ≤ length (now buf)) ⌝ }
-    ensures { λ r. ⌜ Put (eachPart first n (now (cs .entry))) (now (buf .entry)) at (now (buf .exit)) r ⌝ }
+// The number of clauses, `more` of them behind these: none where the code is 0, [code of node] where n is 0, else one for each of cs.
+fn put_first(code: u8, node: u8, n: u8, more: u8, cs: &[u8], buf: &mut [u8]) -> usize
+    requires { ⌜ (n ≤ 3) × (more ≤ 1) × (length (now cs) ≤ 32) × (length (firstBytes code node n more (now cs)) ≤ length (now buf)) ⌝ }
+    ensures { λ r. ⌜ Put (firstBytes code node n more (now (cs .entry))) (now (buf .entry)) 0 (now (buf .exit)) r ⌝ }
 {
-    if n == 0 {
-        return at;
+    if code == 0 {
+        buf[0] = more;
+        return 1;
     }
-    let mut w = at;
+    if n == 0 {
+        buf[0] = 1 + more;
+        return put_clause(code, 1, node, buf, 1);
+    }
+    buf[0] = cs.len() as u8 + more;
+    let mut w = 1;
     let mut i = 0;
     while i < cs.len() {
-        w = put_clause(first, n, cs[i], buf, w);
+        w = put_clause(code, n, cs[i], buf, w);
         i += 1;
     }
     w
-}
-
-// The clause [code of v], and nothing for the code 0.
-fn put_one(code: u8, v: u8, buf: &mut [u8], at: usize) -> usize
-    requires { ⌜ at + length (onePart code v) ≤ length (now buf) ⌝ }
-    ensures { λ r. ⌜ Put (onePart code v) (now (buf .entry)) at (now (buf .exit)) r ⌝ }
-{
-    if code == 0 {
-        return at;
-    }
-    put_clause(code, 1, v, buf, at)
 }
 
 // The clause [code of any of cs], and nothing for the code 0.
@@ -76,23 +71,12 @@ fn put_any(code: u8, cs: &[u8], buf: &mut [u8], at: usize) -> usize
     w
 }
 
-// How many clauses a row has that speaks of n nodes.
-fn clauses(one: u8, codes: u8, any: u8, n: u8) -> u8
-    requires { ⌜ n ≤ 32 ⌝ }
-    ensures { λ r. ⌜ r ≡ more one (more any (allOf codes n)) ⌝ }
-{
-    let all = if codes == 0 { 0 } else { n };
-    let rest = if any == 0 { all } else { all + 1 };
-    if one == 0 { rest } else { rest + 1 }
-}
-
 // The guard of a row, at the front of buf.
 pub(crate) fn put_row(row: Row, cs: &[u8], buf: &mut [u8]) -> usize
-    requires { ⌜ (row .codes ≤ 3) × (length (now cs) ≤ 32) × (length (rowBytes row (now cs)) ≤ length (now buf)) ⌝ }
+    requires { ⌜ (row .2 ≤ 3) × (length (now cs) ≤ 32) × (length (rowBytes row (now cs)) ≤ length (now buf)) ⌝ }
     ensures { λ r. ⌜ Put (rowBytes row (now (cs .entry))) (now (buf .entry)) 0 (now (buf .exit)) r ⌝ }
 {
-    buf[0] = clauses(row.one, row.codes, row.any, cs.len() as u8);
-    let w = put_one(row.one, row.node, buf, 1);
-    let w = put_each(row.first, row.codes, cs, buf, w);
-    put_any(row.any, cs, buf, w)
+    let more = if row.3 == 0 { 0 } else { 1 };
+    let w = put_first(row.0, row.1, row.2, more, cs, buf);
+    put_any(row.3, cs, buf, w)
 }

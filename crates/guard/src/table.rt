@@ -9,42 +9,18 @@ ghost use Rattle.event.specs.Event.{codeOf};
 ghost use Rattle.guard.specs.Guard.{isFirst, beforeIn, startBy, finishBy, abortBy};
 ghost use Rattle.guard.specs.Row.{RowOf, near, rowBy};
 
-// A guard that speaks of the nodes cs: a clause [one of node]; for each of cs the first `codes` of [first, abort, turned down]; a clause
-// [any of cs]. What has the code 0, or no codes, is left out.
-pub(crate) struct Row {
-    pub(crate) one: u8,
-    pub(crate) node: u8,
-    pub(crate) first: u8,
-    pub(crate) codes: u8,
-    pub(crate) any: u8,
-}
+// A guard that speaks of the nodes cs, as Row(code, node, n, any): [code of node] where n is 0, else for each of cs the first n of [code, abort,
+// turned down]; then [any of cs]. The code 0 leaves its part out.
+pub(crate) struct Row(pub(crate) u8, pub(crate) u8, pub(crate) u8, pub(crate) u8);
 
 // The start of a first child, by the kind of its parent u.
 fn first(above: u8, u: u8) -> Row
     ensures { λ r. ⌜ ((cs : List ℕ) (v : ℕ) → isFirst cs v ≡ true → RowOf r cs (startBy (kindOf above) u cs v)) ⌝ }
 {
     match above {
-        2..=6 => Row {
-            one: 1,
-            node: u,
-            first: 0,
-            codes: 0,
-            any: 0,
-        },
-        7 => Row {
-            one: 5,
-            node: u,
-            first: 0,
-            codes: 0,
-            any: 0,
-        },
-        _ => Row {
-            one: 0,
-            node: 0,
-            first: 0,
-            codes: 0,
-            any: 0,
-        },
+        2..=6 => Row(1, u, 0, 0),
+        7 => Row(5, u, 0, 0),
+        _ => Row(0, 0, 0, 0),
     }
 }
 
@@ -53,41 +29,11 @@ fn later(above: u8, u: u8, b: u8) -> Row
     ensures { λ r. ⌜ ((cs : List ℕ) (v : ℕ) → isFirst cs v ≡ false → b ≡ beforeIn v cs v → RowOf r cs (startBy (kindOf above) u cs v)) ⌝ }
 {
     match above {
-        2 => Row {
-            one: 3,
-            node: b,
-            first: 0,
-            codes: 0,
-            any: 0,
-        },
-        3..=5 => Row {
-            one: 1,
-            node: u,
-            first: 0,
-            codes: 0,
-            any: 0,
-        },
-        6 => Row {
-            one: 4,
-            node: b,
-            first: 0,
-            codes: 0,
-            any: 0,
-        },
-        7 => Row {
-            one: 6,
-            node: u,
-            first: 0,
-            codes: 0,
-            any: 0,
-        },
-        _ => Row {
-            one: 0,
-            node: 0,
-            first: 0,
-            codes: 0,
-            any: 0,
-        },
+        2 => Row(3, b, 0, 0),
+        3..=5 => Row(1, u, 0, 0),
+        6 => Row(4, b, 0, 0),
+        7 => Row(6, u, 0, 0),
+        _ => Row(0, 0, 0, 0),
     }
 }
 
@@ -96,48 +42,12 @@ fn finish(k: u8, v: u8, l: u8) -> Row
     ensures { λ r. ⌜ ((cs : List ℕ) → l ≡ lastOr v cs → RowOf r cs (finishBy (kindOf k) v cs)) ⌝ }
 {
     match k {
-        2 => Row {
-            one: 3,
-            node: l,
-            first: 0,
-            codes: 0,
-            any: 0,
-        },
-        3 => Row {
-            one: 0,
-            node: 0,
-            first: 3,
-            codes: 1,
-            any: 0,
-        },
-        4 => Row {
-            one: 0,
-            node: 0,
-            first: 3,
-            codes: 2,
-            any: 3,
-        },
-        5 => Row {
-            one: 0,
-            node: 0,
-            first: 3,
-            codes: 3,
-            any: 3,
-        },
-        6..=7 => Row {
-            one: 0,
-            node: 0,
-            first: 0,
-            codes: 0,
-            any: 3,
-        },
-        _ => Row {
-            one: 1,
-            node: v,
-            first: 0,
-            codes: 0,
-            any: 0,
-        },
+        2 => Row(3, l, 0, 0),
+        3 => Row(3, 0, 1, 0),
+        4 => Row(3, 0, 2, 3),
+        5 => Row(3, 0, 3, 3),
+        6..=7 => Row(0, 0, 0, 3),
+        _ => Row(1, v, 0, 0),
     }
 }
 
@@ -145,41 +55,11 @@ fn abort(k: u8, v: u8, l: u8) -> Row
     ensures { λ r. ⌜ ((cs : List ℕ) → l ≡ lastOr v cs → RowOf r cs (abortBy (kindOf k) v cs)) ⌝ }
 {
     match k {
-        2 | 7 => Row {
-            one: 0,
-            node: 0,
-            first: 0,
-            codes: 0,
-            any: 4,
-        },
-        3 => Row {
-            one: 0,
-            node: 0,
-            first: 3,
-            codes: 2,
-            any: 4,
-        },
-        4..=5 => Row {
-            one: 0,
-            node: 0,
-            first: 4,
-            codes: 1,
-            any: 0,
-        },
-        6 => Row {
-            one: 4,
-            node: l,
-            first: 0,
-            codes: 0,
-            any: 0,
-        },
-        _ => Row {
-            one: 1,
-            node: v,
-            first: 0,
-            codes: 0,
-            any: 0,
-        },
+        2 | 7 => Row(0, 0, 0, 4),
+        3 => Row(3, 0, 2, 4),
+        4..=5 => Row(4, 0, 1, 0),
+        6 => Row(4, l, 0, 0),
+        _ => Row(1, v, 0, 0),
     }
 }
 
@@ -195,37 +75,13 @@ pub(crate) fn row_of(code: u8, k: u8, above: u8, u: u8, v: u8, b: u8) -> Row
         },
         2 => finish(k, v, b),
         3 => if above == 5 {
-            Row {
-                one: 7,
-                node: v,
-                first: 0,
-                codes: 0,
-                any: 0,
-            }
+            Row(7, v, 0, 0)
         } else {
             finish(k, v, b)
         },
         4 => abort(k, v, b),
-        5..=6 => Row {
-            one: 1,
-            node: v,
-            first: 0,
-            codes: 0,
-            any: 0,
-        },
-        7 => Row {
-            one: 2,
-            node: v,
-            first: 0,
-            codes: 0,
-            any: 0,
-        },
-        _ => Row {
-            one: 2,
-            node: v,
-            first: 0,
-            codes: 0,
-            any: 7,
-        },
+        5..=6 => Row(1, v, 0, 0),
+        7 => Row(2, v, 0, 0),
+        _ => Row(2, v, 0, 7),
     }
 }

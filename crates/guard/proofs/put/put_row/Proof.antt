@@ -1,52 +1,35 @@
--- The count, and the parts one after another. Assumes nothing.
-use mathlib.Core.Path.{_∙_}
+-- The first bytes, and behind them the last clause. Assumes nothing.
+use mathlib.Core.Path.{_≡_, sym, _∙_}
+use mathlib.Core.Logic.{⊎-elim}
+use Prim.Native.Nat.{_≤_}
 use native.Mathlib.Omega.{arith}
-use lib.ListN.{length-set}
+use Rattle.guard.specs.Put.{moreOf}
 use Rattle.lists.proofs.PutLaws.{put-length}
-use Rattle.guard.proofs.PutLaws.{row-length, row-put}
+use Rattle.guard.proofs.PutLaws.{more-none, more-some, row-length, row-put}
 use borrow.Author.Needs.{needs}
 use Rattle.guard.proofs.put.put_row.Statement.{statement}
 use Rattle.guard.proofs.put.put_row.Tie as tie
 
-cast-clauses : tie.Need-cast-clauses
-cast-clauses c = search needs
+more-is : (c : tie.Joined1) → c .if1 .more ≡ moreOf (c .before .before .before .before .args .row .3)
+more-is c = ⊎-elim (λ w. w .1 ∙ sym (more-none _ (w .0 .taken))) (λ w. w .1 ∙ sym (more-some _ (w .0 .left))) (c .if1 .came)
 
-clauses-requires : tie.Need-clauses-requires
-clauses-requires c κs = search needs
+more-few : (c : tie.Joined1) → c .if1 .more ≤ 1
+more-few c = ⊎-elim (λ w. omega arith) (λ w. omega arith) (c .if1 .came)
 
-slice-write-buf : tie.Need-slice-write-buf
-slice-write-buf c = let s = c .before .before .before in omega (arith, row-length (s .args .row) (s .args .cs .now), s .pre .2)
-
-put-one-requires : tie.Need-put-one-requires
-put-one-requires c κs = let s = c .before .before .before .before in
-    simp length-set (omega (arith, row-length (s .args .row) (s .args .cs .now), s .pre .2))
-
-put-each-requires : tie.Need-put-each-requires
-put-each-requires c κs = let s = c .before .before .before .before .before .before .before .before in
-    let o = c .before .before .before .put-one .ensures in
-    (s .pre .0, omega (arith, row-length (s .args .row) (s .args .cs .now), s .pre .2, o .place, simp length-set at (put-length o)))
+put-first-requires : tie.Need-put-first-requires
+put-first-requires c κs = let s = c .before .before .before .before .before in
+    (s .pre .0, more-few (c .before), s .pre .1, omega (arith, row-length (s .args .row) (s .args .cs .now) (more-is (c .before)), s .pre .2))
 
 put-any-requires : tie.Need-put-any-requires
-put-any-requires c κs = let s = c .before .before .before .before .before .before .before .before .before .before .before .before in
-    let o = c .before .before .before .before .before .before .before .put-one .ensures in
-    let e = c .before .before .before .put-each .ensures in
-    (s .pre .1, omega (arith, row-length (s .args .row) (s .args .cs .now), s .pre .2, o .place, simp length-set at (put-length o), e .place, put-length e))
+put-any-requires c κs = let s = c .before .before .before .before .before .before .before .before .before in
+    let h = c .before .before .before .put-first .ensures in
+    (s .pre .1, omega (arith, row-length (s .args .row) (s .args .cs .now) (more-is (c .before .before .before .before .before)), s .pre .2, h .place, put-length h))
 
 same-length : tie.Need-same-length
-same-length c = put-length (c .before .before .put-any .ensures) ∙ put-length (c .before .before .before .before .before .before .put-each .ensures) ∙ put-length (c .before .before .before .before .before .before .before .before .before .before .put-one .ensures) ∙ simp length-set
+same-length c = search needs
 
 returns : tie.Need-returns
-returns c = row-put _ _ _ (c .before .before .before .before .before .before .before .before .before .before .before .before .clauses .ensures) (c .before .before .before .before .before .before .before .before .before .before .put-one .ensures) (c .before .before .before .before .before .before .put-each .ensures) (c .before .before .put-any .ensures)
+returns c = row-put _ _ (more-is (c .before .before .before .before .before .before .before .before)) (c .before .before .before .before .before .before .put-first .ensures) (c .before .before .put-any .ensures)
 
 pub put-row-spec : {M : Type 1} → statement M
-put-row-spec =
-    tie.close
-    (tie.spec
-    cast-clauses
-    clauses-requires
-    slice-write-buf
-    put-one-requires
-    put-each-requires
-    put-any-requires
-    same-length
-    returns)
+put-row-spec = tie.close (tie.spec put-first-requires put-any-requires same-length returns)
