@@ -1,10 +1,8 @@
 -- Laws of the nodes that a guard speaks of: the first, the last, the one before, and how they are gathered. Assumes nothing.
 use mathlib.Core.Path.{_≡_, refl, sym, ap, _∙_}
-use mathlib.Core.Bool.{Bool, true, false, _&&_, _||_, cond, not, and-true, or-true}
-use mathlib.Core.List.{List, [], _∷_, _++_}
-use mathlib.Core.Logic.{⊎-elim}
+use mathlib.Core.Bool.{Bool, true, false, _&&_, _||_, not, and-true, or-true}
+use mathlib.Core.List.{List, [], _∷_}
 use Prim.Native.Nat.{ℕ, zero, suc, pred, _+_, _-_, _<_, _≤_}
-use native.Mathlib.Nat.{eq-or-lt-of-le}
 use native.Mathlib.Numerals.{add-one}
 use native.Mathlib.Omega.{arith}
 use borrow.Author.Tests.{eq-eqb, ne-eqb, eqb-true, eqb-false}
@@ -21,7 +19,6 @@ use Rattle.plan.specs.Check.{Accepted}
 use Rattle.plan.proofs.KindLaws.{above-byte}
 use Rattle.plan.proofs.AcceptedLaws.{child-between}
 use Rattle.event.specs.Event.{Code, start, offer, commit, abort, answered-yes, answered-no, pick, down, codeOf, eventOf}
-use Rattle.event.proofs.CodeLaws.{code-down}
 use Rattle.guard.specs.Guard.{one, anyOf, isFirst, beforeIn, finishing, aborting, guardBy, guard}
 use Rattle.lists.specs.Put.{Put}
 use Rattle.guard.specs.Row.{isKin, kin, near, rowBy}

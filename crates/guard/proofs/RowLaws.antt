@@ -1,14 +1,12 @@
 -- The rows of the guard tables, by the numbers of codes and kinds: each gives the bytes of its guard. Assumes nothing.
-use mathlib.Core.Path.{_≡_, refl, sym, ap, _∙_}
-use mathlib.Core.Bool.{Bool, true, false, cond}
+use mathlib.Core.Path.{_≡_, refl, sym, _∙_}
+use mathlib.Core.Bool.{true, false}
 use mathlib.Core.List.{List, [], _∷_, _++_, append-nil}
 use mathlib.Core.Logic.{_⊎_, ⊎-elim}
 use Prim.Native.Nat.{ℕ, _+_, _≤_, _<_}
 use native.Mathlib.Nat.{add-zero, eq-or-lt-of-le}
 use native.Mathlib.Omega.{arith}
 use borrow.Author.Tests.{eq-eqb, ne-eqb}
-use lib.Dec.{eqb}
-use lib.ListN.{length, take}
 use Rattle.lists.specs.Seq.{lastOr}
 use Rattle.plan.specs.Plan.{xor, kindNumber, isKind, kindOf}
 use Rattle.plan.proofs.KindLaws.{is-kind, kind-other}

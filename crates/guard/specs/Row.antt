@@ -1,7 +1,7 @@
 -- The rows of the guard tables, and whom they speak of; only private functions' contracts cite it. Definitions only.
 use mathlib.Core.Path.{_≡_}
 use mathlib.Core.Bool.{Bool, cond, not, _&&_}
-use mathlib.Core.List.{List, [], _∷_, _++_}
+use mathlib.Core.List.{List, _++_}
 use Prim.Native.Nat.{ℕ, pred, _≤_}
 use lib.Dec.{eqb}
 use Rattle.lists.specs.Seq.{keep, upFrom, lastOr}

@@ -1,6 +1,5 @@
 // The writers of clauses, and of a row's guard.
 use crate::table::Row;
-ghost use mathlib.Core.Path.{_≡_};
 ghost use Prim.Native.Nat.{_+_, _*_, _≤_};
 ghost use lib.ListN.{length};
 ghost use Rattle.lists.specs.Put.{Put};

@@ -1,6 +1,6 @@
 -- The count and nothing, one clause, or one for each of cs. The loop's invariant: what is left of cs gives, from w on, what all of it gives from
 -- where it began. Assumes nothing.
-use mathlib.Core.Path.{_≡_, ap, _∙_}
+use mathlib.Core.Path.{ap, _∙_}
 use Prim.Native.Nat.{_-_, _+_, _≤_}
 use native.Mathlib.Omega.{arith}
 use lib.ListN.{length, length-set, drop, getD}

@@ -3,7 +3,6 @@ use mathlib.Core.Path.{_≡_}
 use mathlib.Core.Logic.{inl, inr}
 use native.Mathlib.Omega.{arith}
 use Rattle.guard.proofs.RowLaws.{abort-any, abort-and, abort-contingency, abort-each, abort-task}
-use borrow.Author.Needs.{needs}
 use Rattle.guard.proofs.table.abort.Statement.{statement}
 use Rattle.guard.proofs.table.abort.Tie as tie
 

@@ -1,7 +1,6 @@
 -- Each arm is its row, as the laws of rows say. Assumes nothing.
 use native.Mathlib.Omega.{arith}
 use Rattle.guard.proofs.RowLaws.{finish-serial, finish-and, finish-or, finish-xor, finish-any, finish-task}
-use borrow.Author.Needs.{needs}
 use Rattle.guard.proofs.table.finish.Statement.{statement}
 use Rattle.guard.proofs.table.finish.Tie as tie
 

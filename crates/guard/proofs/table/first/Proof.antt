@@ -1,7 +1,6 @@
 -- Each arm is its row, as the laws of rows say. Assumes nothing.
 use native.Mathlib.Omega.{arith}
 use Rattle.guard.proofs.RowLaws.{first-conditional, first-other, start-root}
-use borrow.Author.Needs.{needs}
 use Rattle.guard.proofs.table.first.Statement.{statement}
 use Rattle.guard.proofs.table.first.Tie as tie
 

@@ -1,7 +1,6 @@
 -- Each arm is its row, as the laws of rows say. Assumes nothing.
 use native.Mathlib.Omega.{arith}
 use Rattle.guard.proofs.RowLaws.{later-serial, later-contingency, later-conditional, start-block, start-root}
-use borrow.Author.Needs.{needs}
 use Rattle.guard.proofs.table.later.Statement.{statement}
 use Rattle.guard.proofs.table.later.Tie as tie
 
