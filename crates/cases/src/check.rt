@@ -50,7 +50,7 @@ pub fn more() {
 }
 
 pub fn parents() {
-    calls::all_wrong(b"kind 08", b"\x08\xff");
+    calls::all_wrong(b"kind 09", b"\x09\xff");
     calls::all_wrong(b"node 1 with parent 1", b"\x02\xff\x01\x01");
     calls::all_wrong(b"parent that is a task", b"\x02\xff\x01\x00\x01\x01");
 }
