@@ -7,7 +7,12 @@ use differential::driver::Step;
 use std::hint::black_box;
 
 /// The measured functions.
-pub const NAMES: [&str; 8] = ["check", "guard", "step", "hear", "pass", "simulate", "record", "central"];
+pub const NAMES: [&str; 9] =
+    ["check", "depths", "guard", "step", "hear", "pass", "simulate", "record", "central"];
+
+/// One key typed in a plan: a byte changes, and the plan is checked with its
+/// depths. Every byte of the plan is changed once, to each of two others.
+pub const KEY: &str = "key";
 
 /// How often functions without events are called in a round.
 const CALLS: usize = 100;
@@ -37,7 +42,8 @@ impl Work {
     /// How many calls a round has.
     pub fn calls(&self) -> usize {
         match self.function {
-            "check" | "pass" | "record" => CALLS,
+            "check" | "depths" | "pass" | "record" => CALLS,
+            KEY => 2 * self.fixture.plan.len(),
             "simulate" => self.fixture.steps.len(),
             _ => self.fixture.events.len(),
         }
@@ -47,6 +53,10 @@ impl Work {
     pub fn run(&mut self, subject: &mut impl Implementation) -> u32 {
         match self.function {
             "check" => self.repeat(|work| subject.check(black_box(&work.fixture.plan))),
+            "depths" => {
+                self.repeat(|work| subject.check_depths(black_box(&work.fixture.plan), &mut work.out))
+            }
+            KEY => self.keys(subject),
             "pass" => self.repeat(|work| {
                 subject.pass(black_box(&work.fixture.plan), &work.fixture.answers, &mut work.out)
             }),
@@ -65,6 +75,19 @@ impl Work {
 
     fn repeat(&mut self, mut call: impl FnMut(&mut Work) -> u32) -> u32 {
         (0..CALLS).fold(0, |sum, _| mix(sum, call(self)))
+    }
+
+    fn keys(&mut self, subject: &mut impl Implementation) -> u32 {
+        let plan = &mut self.fixture.plan;
+        let mut sum = 0;
+        for place in 0..plan.len() {
+            for typed in [plan[place] ^ 1, plan[place] ^ 2] {
+                let before = std::mem::replace(&mut plan[place], typed);
+                sum = mix(sum, subject.check_depths(black_box(plan), &mut self.out));
+                plan[place] = before;
+            }
+        }
+        sum
     }
 
     fn guards(&mut self, subject: &mut impl Implementation) -> u32 {
@@ -134,7 +157,7 @@ mod tests {
     /// had.
     #[test]
     fn rounds_are_alike() {
-        for function in NAMES {
+        for function in NAMES.into_iter().chain([KEY]) {
             let mut work = Work::new(function, &Fixture::new(40));
             let state = work.fixture.state.clone();
             let first = work.run(&mut Reference);

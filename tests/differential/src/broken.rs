@@ -71,6 +71,10 @@ pub enum Mistake {
     OneLevelMore,
     /// Parents are looked at before kinds.
     ParentsBeforeKinds,
+    /// Written depths count from 0.
+    DepthsFromZero,
+    /// Depth bytes of a wrong length are noticed before the plan's own fault.
+    DepthsLengthFirst,
     /// A carriage return is overlooked in a text.
     TextWithReturns,
     /// A refused plan is reported before the rest of the text is read.
@@ -79,7 +83,7 @@ pub enum Mistake {
 
 impl Mistake {
     /// All mistakes; the first is number 1.
-    pub const ALL: [Mistake; 33] = [
+    pub const ALL: [Mistake; 35] = [
         Mistake::CommitUnlessAbortHeard,
         Mistake::PickAtTheChild,
         Mistake::TurnedDownStillRuns,
@@ -111,6 +115,8 @@ impl Mistake {
         Mistake::CentralAndFailsAtOnce,
         Mistake::OneLevelMore,
         Mistake::ParentsBeforeKinds,
+        Mistake::DepthsFromZero,
+        Mistake::DepthsLengthFirst,
         Mistake::TextWithReturns,
         Mistake::PlanBeforeText,
     ];
@@ -251,6 +257,19 @@ impl Implementation for Broken {
             Mistake::RefusesEveryPlan => 1,
             Mistake::OneLevelMore if honest == 6 && levels(plan) == 33 => 0,
             Mistake::ParentsBeforeKinds if honest == 2 && !parents_are_right(plan) => 3,
+            _ => honest,
+        }
+    }
+
+    fn check_depths(&mut self, plan: &[u8], depths: &mut [u8]) -> u32 {
+        let honest = self.honest.check_depths(plan, depths);
+        match self.mistake {
+            Mistake::RefusesEveryPlan => 1,
+            Mistake::DepthsFromZero if honest == 0 => {
+                depths.iter_mut().for_each(|depth| *depth -= 1);
+                0
+            }
+            Mistake::DepthsLengthFirst if depths.len() * 2 != plan.len() => 7,
             _ => honest,
         }
     }

@@ -3,6 +3,13 @@
 unsafe extern "C" {
     pub fn vulcedar_check(plan: *const u8, plan_length: usize) -> u32;
 
+    pub fn vulcedar_check_depths(
+        plan: *const u8,
+        plan_length: usize,
+        depths: *mut u8,
+        depths_length: usize,
+    ) -> u32;
+
     pub fn vulcedar_guard(
         plan: *const u8,
         plan_length: usize,
