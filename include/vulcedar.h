@@ -60,7 +60,7 @@ extern "C" {
 /* A guard never has more bytes than this. */
 #define VULCEDAR_GUARD_MOST 290u
 
-/* Checks a plan: 0, or 1 to 6. */
+/* Checks a plan: 0, or 1 to 6. One walk over the nodes, so that an editor can check at every key. */
 uint32_t vulcedar_check(const uint8_t *plan, size_t plan_len);
 
 /*
@@ -69,6 +69,14 @@ uint32_t vulcedar_check(const uint8_t *plan, size_t plan_len);
  * plan_len. out is written only on 0. Call it once for such a plan, and use the result at every site.
  */
 uint32_t vulcedar_rewrite(const uint8_t *plan, size_t plan_len, uint8_t *out, size_t out_len);
+
+/*
+ * Checks a plan and tells how deep every node lies, for an editor that shows the tree while it is typed. depths has one
+ * byte a node; on 0 the root's is 1 and any other node's is one more than its parent's, at most 32. The number is the one
+ * that vulcedar_check gives the plan, 1 to 6; where that would be 0 and depths_len is not the number of nodes, it is 7.
+ * depths is written only on 0.
+ */
+uint32_t vulcedar_check_depths(const uint8_t *plan, size_t plan_len, uint8_t *depths, size_t depths_len);
 
 /*
  * Writes what an event waits for to the front of buf: the number of clauses; for each clause its number of events, then

@@ -1,5 +1,6 @@
 // Plan bytes: nodes, kinds, parents, child counts, depths, and the check of a plan. What the words mean is specs/Plan.antt, what the
-// check answers and accepts specs/Check.antt. No public function has a `requires`; `check` is linear in the nodes.
+// check answers and accepts specs/Check.antt, its second form specs/Depths.antt. No public function has a `requires`; both forms of the check
+// are linear in the nodes.
 ghost use mathlib.Core.Path.{_≡_};
 ghost use mathlib.Core.Bool.{true};
 ghost use Prim.Native.Nat.{_<_};
@@ -7,6 +8,7 @@ ghost use lib.ListN.{length, getD, replicate};
 ghost use Rattle.lists.specs.Seq.{table};
 ghost use Rattle.plan.specs.Plan.{kindOf, size, kindByte, parent, aboveByte, childCount, depth};
 ghost use Rattle.plan.specs.Check.{lengthOk, kindOk, parentOk, underBlock, fits, countOk, depthOk, atAll, checkNumber, Ordered};
+ghost use Rattle.plan.specs.Depths.{checked, depthsOf};
 
 // A byte as an index.
 pub fn wide(x: u8) -> usize
@@ -216,5 +218,36 @@ pub fn check(plan: &[u8]) -> u8
     if !told.shallow {
         return 6;
     }
+    0
+}
+
+// Leaves each node's depth in `out`, which is one byte a node.
+fn depths(plan: &[u8], out: &mut [u8])
+    requires { ⌜ Ordered (now plan) × (length (now out) ≡ size (now plan)) ⌝ }
+    ensures { λ _. ⌜ now (out .exit) ≡ table (depth (now (plan .entry))) (size (now (plan .entry))) ⌝ }
+{
+    let n = node_count(plan);
+    out[0] = 1;
+    let mut v = 1;
+    while v < n {
+        let u = parent_at(plan, v);
+        out[v] = out[u] + 1;
+        v += 1;
+    }
+}
+
+// The check, and every node's depth in `out`: the number that `check` answers, and 7 where that is 0 and `out` is not one byte a node. A
+// refused call leaves `out`.
+pub fn check_depths(plan: &[u8], out: &mut [u8]) -> u8
+    ensures { λ r. ⌜ depthsOf (now (plan .entry)) (now (out .entry)) ≡ checked (now (out .exit)) r ⌝ }
+{
+    let bad = check(plan);
+    if bad != 0 {
+        return bad;
+    }
+    if out.len() != node_count(plan) {
+        return 7;
+    }
+    depths(plan, out);
     0
 }

@@ -4,6 +4,7 @@ ghost use mathlib.Core.Path.{_≡_};
 ghost use Prim.Native.Nat.{_+_, _*_, _≤_};
 ghost use Rattle.plan.specs.Check.{checkNumber};
 ghost use Rattle.rewrite.specs.Rewrite.{rewriteOf};
+ghost use Rattle.plan.specs.Depths.{depthsOf};
 ghost use Rattle.guard.specs.Written.{writeOf};
 ghost use Rattle.site.specs.Step.{stepOf, hearOf};
 ghost use Rattle.central.specs.Rule.{ruleOf};
@@ -36,6 +37,14 @@ pub extern "C" fn vulcedar_rewrite(plan: &[u8], out: &mut [u8]) -> u32
     ensures { λ r. ⌜ now (out .exit) ≡ rewriteOf (now (plan .entry)) (now (out .entry)) .out ⌝ }
 {
     packed(rewrite::rewrite(plan, out), 0)
+}
+
+#[no_mangle]
+pub extern "C" fn vulcedar_check_depths(plan: &[u8], depths: &mut [u8]) -> u32
+    ensures { λ r. ⌜ r ≡ result (depthsOf (now (plan .entry)) (now (depths .entry)) .number) 0 0 ⌝ }
+    ensures { λ r. ⌜ now (depths .exit) ≡ depthsOf (now (plan .entry)) (now (depths .entry)) .depths ⌝ }
+{
+    packed(plan::check_depths(plan, depths), 0)
 }
 
 #[no_mangle]

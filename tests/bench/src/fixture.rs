@@ -36,7 +36,7 @@ pub struct Fixture {
 }
 
 impl Fixture {
-    /// A plan of 10, 40 or 160 nodes and its half-done job.
+    /// A plan of 10 to 96 or of 160 nodes and its half-done job.
     pub fn new(nodes: usize) -> Fixture {
         let plan = plan(nodes);
         let tree = Tree::new(&plan);

@@ -12,11 +12,13 @@ use job::Script;
 use measure::{Medians, in_turn};
 use std::env;
 use std::process::ExitCode;
-use work::{NAMES, Work};
+use work::{KEY, NAMES, Work};
 
 const USAGE: &str = "usage: bench [--self] [--rounds N] [--only FUNCTION]";
 /// The sizes of the measured plans.
 const SIZES: [usize; 3] = [10, 40, 160];
+/// The sizes for the time a node.
+const GROWING: [usize; 5] = [10, 20, 40, 80, 160];
 
 fn main() -> ExitCode {
     match read_arguments(env::args().skip(1)).and_then(start) {
@@ -34,7 +36,8 @@ struct Options {
     own_copy: bool,
     /// How often each side is measured.
     rounds: usize,
-    /// Only this function; "job" is the whole job.
+    /// Only this function; "job" is the whole job, "typing" what an editor
+    /// waits for.
     only: Option<String>,
 }
 
@@ -94,6 +97,9 @@ fn compare(name: &str, subject: &mut impl Implementation, options: &Options) -> 
             print_line(function, nodes, &medians);
         }
     }
+    if options.wants("typing") {
+        compare_typing(subject, options.rounds)?;
+    }
     if options.wants("job") {
         compare_job(name, subject, options.rounds.div_ceil(10))?;
     }
@@ -113,6 +119,21 @@ fn compare_function(
     }
     let calls = ours.calls();
     Ok(in_turn(rounds, calls, || theirs.run(subject), || ours.run(&mut Reference)))
+}
+
+/// The check's time a node in growing plans, and the time of one typed key.
+fn compare_typing(subject: &mut impl Implementation, rounds: usize) -> Result<(), String> {
+    for function in ["check", "depths"] {
+        for nodes in GROWING {
+            let medians = compare_function(function, nodes, subject, rounds)?;
+            let each = Medians { theirs: medians.theirs / nodes as f64, ours: medians.ours / nodes as f64 };
+            print_line(&format!("{function}/n"), nodes, &each);
+        }
+    }
+    for nodes in SIZES {
+        print_line("key", nodes, &compare_function(KEY, nodes, subject, rounds)?);
+    }
+    Ok(())
 }
 
 fn compare_job(name: &str, subject: &mut impl Implementation, rounds: usize) -> Result<(), String> {

@@ -7,8 +7,12 @@ use differential::driver::Step;
 use std::hint::black_box;
 
 /// The measured functions.
-pub const NAMES: [&str; 9] =
-    ["check", "rewrite", "guard", "step", "hear", "pass", "simulate", "record", "central"];
+pub const NAMES: [&str; 10] =
+    ["check", "depths", "rewrite", "guard", "step", "hear", "pass", "simulate", "record", "central"];
+
+/// One key typed in a plan: a byte changes, and the plan is checked with its
+/// depths. Every byte of the plan is changed once, to each of two others.
+pub const KEY: &str = "key";
 
 /// How often functions without events are called in a round.
 const CALLS: usize = 100;
@@ -40,7 +44,8 @@ impl Work {
     /// How many calls a round has.
     pub fn calls(&self) -> usize {
         match self.function {
-            "check" | "rewrite" | "pass" | "record" => CALLS,
+            "check" | "depths" | "rewrite" | "pass" | "record" => CALLS,
+            KEY => 2 * self.fixture.plan.len(),
             "simulate" => self.fixture.steps.len(),
             _ => self.fixture.events.len(),
         }
@@ -54,6 +59,10 @@ impl Work {
                 let plan = &work.fixture.plan;
                 subject.rewrite(black_box(plan), &mut work.rewritten)
             }),
+            "depths" => {
+                self.repeat(|work| subject.check_depths(black_box(&work.fixture.plan), &mut work.out))
+            }
+            KEY => self.keys(subject),
             "pass" => self.repeat(|work| {
                 subject.pass(black_box(&work.fixture.plan), &work.fixture.answers, &mut work.out)
             }),
@@ -72,6 +81,19 @@ impl Work {
 
     fn repeat(&mut self, mut call: impl FnMut(&mut Work) -> u32) -> u32 {
         (0..CALLS).fold(0, |sum, _| mix(sum, call(self)))
+    }
+
+    fn keys(&mut self, subject: &mut impl Implementation) -> u32 {
+        let plan = &mut self.fixture.plan;
+        let mut sum = 0;
+        for place in 0..plan.len() {
+            for typed in [plan[place] ^ 1, plan[place] ^ 2] {
+                let before = std::mem::replace(&mut plan[place], typed);
+                sum = mix(sum, subject.check_depths(black_box(plan), &mut self.out));
+                plan[place] = before;
+            }
+        }
+        sum
     }
 
     fn guards(&mut self, subject: &mut impl Implementation) -> u32 {
@@ -141,7 +163,7 @@ mod tests {
     /// had.
     #[test]
     fn rounds_are_alike() {
-        for function in NAMES {
+        for function in NAMES.into_iter().chain([KEY]) {
             let mut work = Work::new(function, &Fixture::new(40));
             let state = work.fixture.state.clone();
             let first = work.run(&mut Reference);

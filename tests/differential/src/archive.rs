@@ -18,6 +18,10 @@ impl Implementation for Archive {
         vulcedar::rewrite(plan, out)
     }
 
+    fn check_depths(&mut self, plan: &[u8], depths: &mut [u8]) -> u32 {
+        vulcedar::check_depths(plan, depths)
+    }
+
     fn guard(&mut self, plan: &[u8], code: u32, node: u32, buffer: &mut [u8]) -> u32 {
         vulcedar::guard(plan, code, node, buffer)
     }

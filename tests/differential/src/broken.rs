@@ -89,6 +89,10 @@ pub enum Mistake {
     OneLevelMore,
     /// Parents are looked at before kinds.
     ParentsBeforeKinds,
+    /// Written depths count from 0.
+    DepthsFromZero,
+    /// Depth bytes of a wrong length are noticed before the plan's own fault.
+    DepthsLengthFirst,
     /// A carriage return is overlooked in a text.
     TextWithReturns,
     /// A refused plan is reported before the rest of the text is read.
@@ -97,7 +101,7 @@ pub enum Mistake {
 
 impl Mistake {
     /// All mistakes; the first is number 1.
-    pub const ALL: [Mistake; 42] = [
+    pub const ALL: [Mistake; 44] = [
         Mistake::CommitUnlessAbortHeard,
         Mistake::PickAtTheChild,
         Mistake::TurnedDownStillRuns,
@@ -138,6 +142,8 @@ impl Mistake {
         Mistake::RefusedRewriteWrites,
         Mistake::OneLevelMore,
         Mistake::ParentsBeforeKinds,
+        Mistake::DepthsFromZero,
+        Mistake::DepthsLengthFirst,
         Mistake::TextWithReturns,
         Mistake::PlanBeforeText,
     ];
@@ -303,6 +309,19 @@ impl Implementation for Broken {
             _ => {}
         }
         result
+    }
+
+    fn check_depths(&mut self, plan: &[u8], depths: &mut [u8]) -> u32 {
+        let honest = self.honest.check_depths(plan, depths);
+        match self.mistake {
+            Mistake::RefusesEveryPlan => 1,
+            Mistake::DepthsFromZero if honest == 0 => {
+                depths.iter_mut().for_each(|depth| *depth -= 1);
+                0
+            }
+            Mistake::DepthsLengthFirst if depths.len() * 2 != plan.len() => 7,
+            _ => honest,
+        }
     }
 
     fn guard(&mut self, plan: &[u8], code: u32, node: u32, buffer: &mut [u8]) -> u32 {

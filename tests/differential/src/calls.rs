@@ -24,6 +24,7 @@ pub fn damaged_plans<S: Implementation, R: Implementation>(trial: &mut Trial<S, 
         let (one, two) = (length(random, nodes), length(random, nodes));
         let (one, two) = (random.bytes(one), random.bytes(two));
         let state = state_bytes(random, nodes);
+        trial.check_depths(&plan, &one);
         trial.guard(&plan, code, node, &one);
         trial.step(&plan, code, node, &one);
         trial.hear(&plan, code, node, &one);
@@ -66,6 +67,7 @@ pub fn guards<S: Implementation, R: Implementation>(
 ) {
     let tree = Tree::new(plan);
     trial.check(plan);
+    trial.check_depths(plan, &random.bytes(plan.len() / 2));
     for _ in 0..60 {
         let (code, node) = apt_event(random, &tree);
         let long = random.bytes(LONG_BUFFER);
@@ -170,6 +172,7 @@ pub fn lengths<S: Implementation, R: Implementation>(
         let (one, two) = (length(random, nodes), length(random, nodes));
         let (one, two) = (random.bytes(one), random.bytes(two));
         let state = state_bytes(random, nodes);
+        trial.check_depths(plan, &one);
         trial.step(plan, code, node, &one);
         trial.hear(plan, code, node, &one);
         trial.pass(plan, &one, &two);

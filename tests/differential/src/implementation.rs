@@ -9,6 +9,8 @@ pub trait Implementation {
     fn check(&mut self, plan: &[u8]) -> u32;
     /// Rewrites a plan from before kind 08.
     fn rewrite(&mut self, plan: &[u8], out: &mut [u8]) -> u32;
+    /// Checks a plan and writes every node's depth.
+    fn check_depths(&mut self, plan: &[u8], depths: &mut [u8]) -> u32;
     /// Writes a guard.
     fn guard(&mut self, plan: &[u8], code: u32, node: u32, buffer: &mut [u8]) -> u32;
     /// An event at its site.
@@ -37,6 +39,10 @@ impl Implementation for Reference {
 
     fn rewrite(&mut self, plan: &[u8], out: &mut [u8]) -> u32 {
         exported::rewrite(plan, out)
+    }
+
+    fn check_depths(&mut self, plan: &[u8], depths: &mut [u8]) -> u32 {
+        exported::check_depths(plan, depths)
     }
 
     fn guard(&mut self, plan: &[u8], code: u32, node: u32, buffer: &mut [u8]) -> u32 {

@@ -12,6 +12,8 @@ pub enum Function {
     Check,
     /// `vulcedar_rewrite`
     Rewrite,
+    /// `vulcedar_check_depths`
+    CheckDepths,
     /// `vulcedar_guard`
     Guard,
     /// `vulcedar_step`
@@ -32,7 +34,7 @@ pub enum Function {
 }
 
 /// How many functions there are.
-const FUNCTIONS: usize = 10;
+const FUNCTIONS: usize = 11;
 /// How many numbers there are, with 0 for passed.
 const NUMBERS: usize = 16;
 
@@ -41,6 +43,7 @@ impl Function {
     pub const ALL: [Function; FUNCTIONS] = [
         Function::Check,
         Function::Rewrite,
+        Function::CheckDepths,
         Function::Guard,
         Function::Step,
         Function::Hear,
@@ -56,6 +59,7 @@ impl Function {
         match self {
             Function::Check => "check",
             Function::Rewrite => "rewrite",
+            Function::CheckDepths => "depths",
             Function::Guard => "guard",
             Function::Step => "step",
             Function::Hear => "hear",
@@ -76,7 +80,7 @@ impl Function {
             Function::Step => &[0, 1, 2, 3, 4, 5, 6, 7, 8, 9, 10, 11],
             Function::Pass => &[0, 1, 2, 3, 4, 5, 6, 7, 13, 14],
             Function::Simulate => &[0, 1, 2, 3, 4, 5, 6, 7, 8, 9, 10, 11, 12],
-            Function::Rewrite | Function::Record => &[0, 1, 2, 3, 4, 5, 6, 7],
+            Function::Rewrite | Function::Record | Function::CheckDepths => &[0, 1, 2, 3, 4, 5, 6, 7],
             Function::Rehearse => &[0, 1, 2, 3, 4, 5, 6, 8, 9, 10, 11, 12, 15],
         }
     }

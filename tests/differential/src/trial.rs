@@ -71,6 +71,22 @@ impl<S: Implementation, R: Implementation> Trial<S, R> {
         (ours, self.one.subject.bytes())
     }
 
+    /// Checks a plan and writes depths over these bytes. The number must be
+    /// the check's own, or 7 after it.
+    pub fn check_depths(&mut self, plan: &[u8], depths: &[u8]) -> u32 {
+        self.plan.load(plan);
+        self.one.load(depths);
+        let theirs = self.subject.check_depths(self.plan.bytes(), self.one.subject.bytes_mut());
+        let ours = self.reference.check_depths(plan, &mut self.one.reference);
+        let before = self.subject.check(self.plan.bytes());
+        let expected = if before == 0 && depths.len() * 2 != plan.len() { 7 } else { before };
+        let refused_leaves = number(ours) == 0 || self.one.is_untouched();
+        let same = self.one.agrees() && refused_leaves && theirs == expected;
+        let call = Call { function: Function::CheckDepths, plan, numbers: &[], lent: &[depths] };
+        self.judge(call, ours, theirs, same);
+        ours
+    }
+
     /// Writes a guard to a buffer that holds these bytes.
     pub fn guard(&mut self, plan: &[u8], code: u32, node: u32, buffer: &[u8]) -> u32 {
         self.plan.load(plan);

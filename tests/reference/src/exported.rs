@@ -38,6 +38,12 @@ pub fn rewrite(plan: &[u8], out: &mut [u8]) -> u32 {
     done(rewriting::rewrite(plan, out))
 }
 
+/// Checks a plan and writes every node's depth: 1 to 7.
+#[inline(never)]
+pub fn check_depths(plan: &[u8], depths: &mut [u8]) -> u32 {
+    done(plan::Plan::check_depths(plan, depths))
+}
+
 /// Writes a guard; the value is its length. 1 to 6, 8, 9, 7.
 #[inline(never)]
 pub fn guard(plan: &[u8], code: u32, node: u32, buffer: &mut [u8]) -> u32 {

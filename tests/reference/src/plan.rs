@@ -73,6 +73,19 @@ impl<'a> Plan<'a> {
         Ok(Plan { nodes })
     }
 
+    /// Checks the bytes of a plan and writes every node's depth: 1 to 6, then
+    /// 7 unless there is one byte a node. Parents stand before children, so
+    /// a node's depth comes from its parent's, found earlier.
+    pub fn check_depths(bytes: &'a [u8], depths: &mut [u8]) -> Result<(), Refusal> {
+        let plan = Plan::check(bytes)?;
+        require(depths.len() == plan.size(), Refusal::Length)?;
+        depths[0] = 1;
+        for node in 1..plan.size() {
+            depths[node] = depths[usize::from(plan.nodes[node][1])] + 1;
+        }
+        Ok(())
+    }
+
     /// How many nodes there are; never 0.
     pub fn size(&self) -> usize {
         self.nodes.len()

@@ -290,3 +290,26 @@ fn pass_does_not_read_elsewhere() {
     assert_eq!(pass_marks(&hex("04ff 0100 0100"), &[9, 2, 2]), Ok(vec![4, 4, 4]));
     assert_eq!(pass_marks(&hex("06ff 0100 0100"), &[9, 2, 2]), Ok(vec![4, 4, 4]));
 }
+
+/// The second form of the check: the same numbers, then 7; depths on 0 only.
+#[test]
+fn depths_come_with_the_check() {
+    let mut depths = [LEFT; 6];
+    assert_eq!(check_depths(&hex(P), &mut depths), 0);
+    assert_eq!(depths, [1, 2, 2, 3, 3, 2]);
+    for (number, plan) in refused_plans() {
+        for length in [0, plan.len() / 2, plan.len()] {
+            let mut depths = vec![LEFT; length];
+            assert_eq!(check_depths(&plan, &mut depths), number);
+            assert!(depths.iter().all(|&depth| depth == LEFT));
+        }
+    }
+    for length in [0, 5, 7, 12] {
+        let mut depths = vec![LEFT; length];
+        assert_eq!(check_depths(&hex(P), &mut depths), 7);
+        assert!(depths.iter().all(|&depth| depth == LEFT));
+    }
+    let mut depths = [LEFT; 32];
+    assert_eq!(check_depths(&chain(32), &mut depths), 0);
+    assert!((1..).zip(depths).all(|(depth, written)| depth == written));
+}

@@ -18,6 +18,12 @@ pub fn rewrite(plan: &[u8], out: &mut [u8]) -> u32 {
     unsafe { raw::vulcedar_rewrite(plan.as_ptr(), plan.len(), out.as_mut_ptr(), out.len()) }
 }
 
+/// Checks a plan and writes every node's depth.
+pub fn check_depths(plan: &[u8], depths: &mut [u8]) -> u32 {
+    // SAFETY: as for `guard`.
+    unsafe { raw::vulcedar_check_depths(plan.as_ptr(), plan.len(), depths.as_mut_ptr(), depths.len()) }
+}
+
 /// Writes a guard to the front of the buffer; the value is its length.
 pub fn guard(plan: &[u8], code: u32, node: u32, buffer: &mut [u8]) -> u32 {
     // SAFETY: as for `rewrite`.
