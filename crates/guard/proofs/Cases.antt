@@ -6,13 +6,14 @@ use mathlib.Core.List.{List, [], _∷_, _++_, map}
 use Prim.Native.Nat.{ℕ, zero, suc}
 use lib.ListN.{length, replicate}
 use Rattle.lists.specs.Seq.{keep, upFrom, allBelow, lastOr, headOr}
-use Rattle.plan.specs.Plan.{kindNumber, isKind, kindOf, size, kindByte, kind, parent, childrenBelow, children, childCount, others, above, inXor, depthWithin, depth}
+use Rattle.plan.specs.Plan.{kindNumber, isKind, kindOf, size, kindByte, kind, parent, childrenBelow, children, childCount, others, above, aboveByte, inXor, depthWithin, depth}
 use Rattle.plan.specs.Check.{lengthOk, kindOk, parentOk, underBlock, fits, countOk, depthOk, atAll, checkNumber}
 use Rattle.event.specs.Event.{codeNumber, codeOf, isCode, eventOf, appliesBy, applies, known, commit, at}
 use Rattle.event.specs.Valid.{invalid}
 use Rattle.guard.specs.Guard.{isFirst, beforeIn, startBy, finishBy, abortBy, finishing, aborting, guardBy, guard}
+use Rattle.guard.specs.Rule.{ruleKind, isPicked, ruleByte}
 use Rattle.guard.specs.Bytes.{encEvents, encClauses, encode}
-use Rattle.guard.specs.Written.{filled, fitted, writeOf}
+use Rattle.guard.specs.Written.{filled, written, fitted, writeOf}
 use Rattle.guard.specs.declared.Written.{Written}
 use Rattle.guard.specs.declared.Written.the-variants.{Done, Refused}
 
@@ -25,9 +26,9 @@ pub record Case : Type 0 where
   pub answer : Written
 
 -- the guard is written into a buffer with one byte to spare, which stays
-writes : List ℕ → ℕ → ℕ → List ℕ → Case
-writes p code node bytes =
-    record { plan = p; code = code; node = node; buffer = replicate (length bytes) 0 ++ (0xff ∷ []); left = bytes ++ (0xff ∷ []); answer = Done (length bytes) }
+writes : List ℕ → ℕ → ℕ → ℕ → List ℕ → Case
+writes p code node rule bytes =
+    record { plan = p; code = code; node = node; buffer = replicate (length bytes) 0 ++ (0xff ∷ []); left = bytes ++ (0xff ∷ []); answer = Done (written (length bytes) rule) }
 
 -- a buffer of zeros is left
 refuses : List ℕ → ℕ → ℕ → ℕ → ℕ → Case
@@ -53,12 +54,12 @@ branch = 0x07 ∷ 0xff ∷ tasks 2
 
 pub table : List Case
 table =
-    writes planP 7 3 (0x01 ∷ 0x01 ∷ 0x02 ∷ 0x03 ∷ [])
-    ∷ writes (xorOf 1) 8 1 (0x02 ∷ 0x01 ∷ 0x02 ∷ 0x01 ∷ 0x00 ∷ [])
-    ∷ writes lastChance 1 1 (0x01 ∷ 0x01 ∷ 0x01 ∷ 0x00 ∷ [])
-    ∷ writes lastChance 1 3 (0x01 ∷ 0x01 ∷ 0x04 ∷ 0x02 ∷ [])
-    ∷ writes branch 1 2 (0x01 ∷ 0x01 ∷ 0x06 ∷ 0x00 ∷ [])
-    ∷ writes branch 5 0 (0x01 ∷ 0x01 ∷ 0x01 ∷ 0x00 ∷ [])
+    writes planP 7 3 0x57 (0x01 ∷ 0x01 ∷ 0x02 ∷ 0x03 ∷ [])
+    ∷ writes (xorOf 1) 8 1 0x58 (0x02 ∷ 0x01 ∷ 0x02 ∷ 0x01 ∷ 0x00 ∷ [])
+    ∷ writes lastChance 1 1 0x61 (0x01 ∷ 0x01 ∷ 0x01 ∷ 0x00 ∷ [])
+    ∷ writes lastChance 1 3 0x61 (0x01 ∷ 0x01 ∷ 0x04 ∷ 0x02 ∷ [])
+    ∷ writes branch 1 2 0x71 (0x01 ∷ 0x01 ∷ 0x06 ∷ 0x00 ∷ [])
+    ∷ writes branch 5 0 0x75 (0x01 ∷ 0x01 ∷ 0x01 ∷ 0x00 ∷ [])
     ∷ refuses planP 3 2 19 7
     ∷ refuses planP 1 0 0 7
     ∷ refuses planP 9 0 0 8
@@ -68,7 +69,7 @@ table =
     ∷ []
 
 pub all-right : map (λ k. writeOf (k .plan) (k .code) (k .node) (k .buffer)) table ≡ map (λ k. filled (k .left) (k .answer)) table
-unfolding table writes refuses planP tasks xorOf lastChance branch writeOf fitted encode encClauses encEvents codeNumber guard guardBy startBy finishBy
+unfolding table writes refuses planP tasks xorOf lastChance branch writeOf fitted ruleKind isPicked ruleByte aboveByte encode encClauses encEvents codeNumber guard guardBy startBy finishBy
     abortBy finishing aborting isFirst headOr beforeIn lastOr codeOf isCode appliesBy applies known invalid kindNumber isKind kindOf size kindByte kind parent
     childrenBelow children childCount others above inXor depthWithin depth keep upFrom allBelow lengthOk kindOk parentOk underBlock fits countOk depthOk atAll checkNumber
 all-right = refl
