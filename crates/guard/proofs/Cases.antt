@@ -11,7 +11,7 @@ use Rattle.plan.specs.Check.{lengthOk, kindOk, parentOk, underBlock, fits, coun
 use Rattle.event.specs.Event.{codeNumber, codeOf, isCode, eventOf, appliesBy, applies, known, commit, at}
 use Rattle.event.specs.Valid.{invalid}
 use Rattle.guard.specs.Guard.{isFirst, beforeIn, startBy, finishBy, abortBy, finishing, aborting, guardBy, guard}
-use Rattle.guard.specs.Rule.{ruleKind, isPicked, ruleByte}
+use Rattle.guard.specs.Rule.{ruleKind, isPicked, ruleByte, ruleBytes, named, ruleAnswer}
 use Rattle.guard.specs.Bytes.{encEvents, encClauses, encode}
 use Rattle.guard.specs.Written.{filled, written, fitted, writeOf}
 use Rattle.guard.specs.declared.Written.{Written}
@@ -26,9 +26,9 @@ pub record Case : Type 0 where
   pub answer : Written
 
 -- the guard is written into a buffer with one byte to spare, which stays
-writes : List ℕ → ℕ → ℕ → ℕ → List ℕ → Case
-writes p code node rule bytes =
-    record { plan = p; code = code; node = node; buffer = replicate (length bytes) 0 ++ (0xff ∷ []); left = bytes ++ (0xff ∷ []); answer = Done (written (length bytes) rule) }
+writes : List ℕ → ℕ → ℕ → List ℕ → Case
+writes p code node bytes =
+    record { plan = p; code = code; node = node; buffer = replicate (length bytes) 0 ++ (0xff ∷ []); left = bytes ++ (0xff ∷ []); answer = Done (written (length bytes) (ruleByte p (eventOf code node))) }
 
 -- a buffer of zeros is left
 refuses : List ℕ → ℕ → ℕ → ℕ → ℕ → Case
@@ -52,14 +52,19 @@ lastChance = 0x06 ∷ 0xff ∷ tasks 3
 branch : List ℕ
 branch = 0x07 ∷ 0xff ∷ tasks 2
 
+-- an and with two tasks
+both : List ℕ
+both = 0x03 ∷ 0xff ∷ tasks 2
+
 pub table : List Case
 table =
-    writes planP 7 3 0x57 (0x01 ∷ 0x01 ∷ 0x02 ∷ 0x03 ∷ [])
-    ∷ writes (xorOf 1) 8 1 0x58 (0x02 ∷ 0x01 ∷ 0x02 ∷ 0x01 ∷ 0x00 ∷ [])
-    ∷ writes lastChance 1 1 0x61 (0x01 ∷ 0x01 ∷ 0x01 ∷ 0x00 ∷ [])
-    ∷ writes lastChance 1 3 0x61 (0x01 ∷ 0x01 ∷ 0x04 ∷ 0x02 ∷ [])
-    ∷ writes branch 1 2 0x71 (0x01 ∷ 0x01 ∷ 0x06 ∷ 0x00 ∷ [])
-    ∷ writes branch 5 0 0x75 (0x01 ∷ 0x01 ∷ 0x01 ∷ 0x00 ∷ [])
+    writes planP 7 3 (0x01 ∷ 0x01 ∷ 0x02 ∷ 0x03 ∷ [])
+    ∷ writes (xorOf 1) 8 1 (0x02 ∷ 0x01 ∷ 0x02 ∷ 0x01 ∷ 0x00 ∷ [])
+    ∷ writes lastChance 1 1 (0x01 ∷ 0x01 ∷ 0x01 ∷ 0x00 ∷ [])
+    ∷ writes lastChance 1 3 (0x01 ∷ 0x01 ∷ 0x04 ∷ 0x02 ∷ [])
+    ∷ writes branch 1 2 (0x01 ∷ 0x01 ∷ 0x06 ∷ 0x00 ∷ [])
+    ∷ writes branch 5 0 (0x01 ∷ 0x01 ∷ 0x01 ∷ 0x00 ∷ [])
+    ∷ writes both 4 0 (0x03 ∷ 0x02 ∷ 0x03 ∷ 0x01 ∷ 0x04 ∷ 0x01 ∷ 0x02 ∷ 0x03 ∷ 0x02 ∷ 0x04 ∷ 0x02 ∷ 0x02 ∷ 0x04 ∷ 0x01 ∷ 0x04 ∷ 0x02 ∷ [])
     ∷ refuses planP 3 2 19 7
     ∷ refuses planP 1 0 0 7
     ∷ refuses planP 9 0 0 8
@@ -69,7 +74,7 @@ table =
     ∷ []
 
 pub all-right : map (λ k. writeOf (k .plan) (k .code) (k .node) (k .buffer)) table ≡ map (λ k. filled (k .left) (k .answer)) table
-unfolding table writes refuses planP tasks xorOf lastChance branch writeOf fitted ruleKind isPicked ruleByte aboveByte encode encClauses encEvents codeNumber guard guardBy startBy finishBy
+unfolding table writes refuses planP tasks xorOf lastChance branch both writeOf fitted encode encClauses encEvents codeNumber guard guardBy startBy finishBy
     abortBy finishing aborting isFirst headOr beforeIn lastOr codeOf isCode appliesBy applies known invalid kindNumber isKind kindOf size kindByte kind parent
     childrenBelow children childCount others above inXor depthWithin depth keep upFrom allBelow lengthOk kindOk parentOk underBlock fits countOk depthOk atAll checkNumber
 all-right = refl
@@ -79,3 +84,38 @@ pub longest : length (encode (guard (xorOf 32) (at commit 0))) ≡ 290
 unfolding tasks xorOf encode encClauses encEvents guard guardBy finishBy finishing kindNumber isKind kindOf size kindByte kind parent childrenBelow children above
     inXor keep upFrom
 longest = refl
+
+-- events of small plans, one for each rule
+pub record Rule : Type 0 where
+  pub plan : List ℕ
+  pub code : ℕ
+  pub node : ℕ
+
+rule : List ℕ → ℕ → ℕ → Rule
+rule p code node = record { plan = p; code = code; node = node }
+
+-- a block of the kind k with two tasks, alone and in an xor
+pairOf : ℕ → List ℕ
+pairOf k = k ∷ 0xff ∷ tasks 2
+
+offers : ℕ → List ℕ
+offers k = 0x05 ∷ 0xff ∷ k ∷ 0x00 ∷ 0x01 ∷ 0x01 ∷ 0x01 ∷ 0x01 ∷ []
+
+-- its start, offer, commit and abort
+ofKind : ℕ → List Rule
+ofKind k = rule (pairOf k) 1 1 ∷ rule (offers k) 2 1 ∷ rule (pairOf k) 3 0 ∷ rule (pairOf k) 4 0 ∷ []
+
+pub everyRule : List Rule
+everyRule =
+    rule (pairOf 2) 1 0
+    ∷ rule (xorOf 1) 2 1 ∷ rule (pairOf 2) 3 1 ∷ rule (pairOf 2) 4 1
+    ∷ ofKind 2 ++ ofKind 3 ++ ofKind 4 ++ ofKind 5 ++ (rule (pairOf 5) 7 1 ∷ rule (pairOf 5) 8 1 ∷ []) ++ ofKind 6
+    ++ ofKind 7 ++ (rule (pairOf 7) 5 0 ∷ rule (pairOf 7) 6 0 ∷ [])
+    ++ (rule (xorOf 1) 3 1 ∷ [])
+
+-- each is valid, and in this order they are the listed bytes
+pub every-byte : map (λ k. ruleAnswer (k .plan) (k .code) (k .node)) everyRule ≡ map (named 0) ruleBytes
+unfolding everyRule rule pairOf offers ofKind tasks xorOf ruleAnswer ruleBytes ruleKind isPicked ruleByte aboveByte codeNumber codeOf isCode appliesBy applies known invalid
+    kindNumber isKind kindOf size kindByte kind parent childrenBelow children childCount above inXor depthWithin depth keep upFrom allBelow lengthOk kindOk parentOk
+    underBlock fits countOk depthOk atAll checkNumber
+every-byte = refl

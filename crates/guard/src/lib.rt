@@ -3,6 +3,7 @@
 mod digits;
 mod fill;
 mod put;
+mod table;
 
 ghost use mathlib.Core.Path.{_≡_};
 ghost use Rattle.guard.specs.Rule.{named, ruleAnswer};
