@@ -111,7 +111,7 @@ everyRule =
     ∷ rule (xorOf 1) 2 1 ∷ rule (pairOf 2) 3 1 ∷ rule (pairOf 2) 4 1
     ∷ ofKind 2 ++ ofKind 3 ++ ofKind 4 ++ ofKind 5 ++ (rule (pairOf 5) 7 1 ∷ rule (pairOf 5) 8 1 ∷ []) ++ ofKind 6
     ++ ofKind 7 ++ (rule (pairOf 7) 5 0 ∷ rule (pairOf 7) 6 0 ∷ [])
-    ++ (rule (xorOf 1) 3 1 ∷ [])
+    ++ ofKind 8 ++ (rule (xorOf 1) 3 1 ∷ [])
 
 -- each is valid, and in this order they are the listed bytes
 pub every-byte : map (λ k. ruleAnswer (k .plan) (k .code) (k .node)) everyRule ≡ map (named 0) ruleBytes
