@@ -4,5 +4,6 @@ pub mod Shapes
 pub mod Short
 pub mod KinLaws
 pub mod RowLaws
+pub mod RuleLaws
 pub mod WriteLaws
 pub mod Cases

@@ -1,16 +1,30 @@
 // The guard of an event as bytes: what an event has to wait for at its site. What a guard is stands in specs/Guard.antt, its bytes in
 // specs/Bytes.antt, what the writer answers and leaves in specs/Written.antt. The public function has no `requires`: bad input is refused.
+mod digits;
 mod fill;
 mod put;
 mod table;
 
 ghost use mathlib.Core.Path.{_≡_};
+ghost use Rattle.guard.specs.Rule.{named, ruleAnswer};
 ghost use Rattle.guard.specs.Written.{filled, writeOf};
 
-// The guard writer's answer: the guard's length, or the number of the test that failed.
+// A written guard: its length, and the rule behind it.
+pub struct WrittenGuard {
+    pub length: usize,
+    pub rule: u8,
+}
+
+// The guard writer's answer: the guard that it wrote, or the number of the test that failed.
 pub enum Written {
-    Done(usize),
+    Done(WrittenGuard),
     Refused(u8),
+}
+
+// The rule behind a guard; with a number other than 0 there is none.
+pub struct Named {
+    pub number: u8,
+    pub rule: u8,
 }
 
 // The guard of an event at the front of buf; the bytes behind it stay.
@@ -27,5 +41,22 @@ pub fn write_guard(plan: &[u8], code: u32, node: u32, buf: &mut [u8]) -> Written
         return Written::Refused(7);
     }
     bytes::copy(&local[..long], buf);
-    Written::Done(long)
+    Written::Done(WrittenGuard {
+        length: long,
+        rule: digits::rule_byte(plan, code as u8, node as u8),
+    })
+}
+
+// The rule behind the guard of an event.
+pub fn rule(plan: &[u8], code: u32, node: u32) -> Named
+    ensures { λ r. ⌜ ruleAnswer (now (plan .entry)) code node ≡ named (r .number) (r .rule) ⌝ }
+{
+    let number = event::validate(plan, true, true, code, node);
+    if number != 0 {
+        return Named { number, rule: 0 };
+    }
+    Named {
+        number,
+        rule: digits::rule_byte(plan, code as u8, node as u8),
+    }
 }

@@ -20,7 +20,7 @@ use Rattle.event.proofs.ValidLaws.{valid}
 use Rattle.event.proofs.HostLaws.{host-in}
 use Rattle.central.specs.Mark.{idle, running, offered, committed, failed, turned-down, markNumber}
 use Rattle.site.specs.Row.{heardIn, heard, hear}
-use Rattle.site.specs.Verdict.{verdictNumber, verdictSite, refusalNumber, refusalSite}
+use Rattle.site.specs.Verdict.{verdictNumber, verdictSite, refusalNumber, refusalSite, verdictRule}
 use Rattle.site.specs.Step.{Stepped, stepped, siteAt, stepInvalid, decide, stepOf}
 use Rattle.site.specs.declared.Verdict.{Verdict}
 use Rattle.site.proofs.StepLaws.{decide-site}
@@ -51,7 +51,7 @@ row-length p st q h l =
 
 -- THE EVENT HAPPENS
 module _ (p st : List ℕ) (code node : ℕ) where
-  pub happen-refused : (n : ℕ) → n ≡ invalid p (stateFits p (own p) st) true code node → (n ≡ 0 → ⊥) → happen p (own p) st code node ≡ reply n 0 st
+  pub happen-refused : (n : ℕ) → n ≡ invalid p (stateFits p (own p) st) true code node → (n ≡ 0 → ⊥) → happen p (own p) st code node ≡ reply n 0 0 st
   unfolding happen
   happen-refused n e h = let f = ne-eqb (invalid p (stateFits p (own p) st) true code node) 0 (λ z. h (e ∙ z)) in rw (f, e)
 
@@ -61,24 +61,24 @@ module _ (p st : List ℕ) (code node : ℕ) where
     same-tests = rw (fits, eq-eqb (length (rowOf p st q)) (size p) (row-length p st q fits inside))
 
     abbrev result : Stepped → Reply
-    result s = reply (verdictNumber (s .verdict)) (verdictSite (s .verdict)) (withRow p st q (s .row))
+    result s = reply (verdictNumber (s .verdict)) (verdictSite (s .verdict)) (verdictRule (s .verdict)) (withRow p st q (s .row))
 
     valid-happens : invalid p (stateFits p (own p) st) true code node ≡ 0 →
-        happen p (own p) st code node ≡ reply (verdictNumber (decide p code node (rowOf p st q) .verdict)) q (withRow p st q (decide p code node (rowOf p st q) .row))
+        happen p (own p) st code node ≡ reply (verdictNumber (decide p code node (rowOf p st q) .verdict)) q (verdictRule (decide p code node (rowOf p st q) .verdict)) (withRow p st q (decide p code node (rowOf p st q) .row))
     unfolding happen eventBy stepOf
     valid-happens n = let m : stepInvalid p code node (rowOf p st q) ≡ 0 = same-tests ∙ n in rw (n, ← there, m)
 
     -- the site's own step on its row decides all
     happens : happen p (own p) st code node ≡ result (stepOf p code node (rowOf p st q))
-    unfolding stepOf verdictNumber verdictSite refusalNumber refusalSite
+    unfolding stepOf verdictNumber verdictSite verdictRule refusalNumber refusalSite
     happens = cases (decided (eqb (stepInvalid p code node (rowOf p st q)) 0))
         (λ z. let n : invalid p (stateFits p (own p) st) true code node ≡ 0 = sym same-tests ∙ eqb-true _ 0 z in
-        rw z (valid-happens n ∙ ap (λ k. reply (verdictNumber (decide p code node (rowOf p st q) .verdict)) k (withRow p st q (decide p code node (rowOf p st q) .row)))
+        rw z (valid-happens n ∙ ap (λ k. reply (verdictNumber (decide p code node (rowOf p st q) .verdict)) k (verdictRule (decide p code node (rowOf p st q) .verdict)) (withRow p st q (decide p code node (rowOf p st q) .row)))
         (there ∙ sym (decide-site p code node (rowOf p st q)))))
-        (λ z. rw z (happen-refused _ same-tests (eqb-false _ 0 z) ∙ ap (λ s. reply (stepInvalid p code node (rowOf p st q)) 0 s) (sym (with-same p st q))))
+        (λ z. rw z (happen-refused _ same-tests (eqb-false _ 0 z) ∙ ap (λ s. reply (stepInvalid p code node (rowOf p st q)) 0 0 s) (sym (with-same p st q))))
 
     pub happen-stepped : (row : List ℕ) (v : Verdict) → stepOf p code node (rowOf p st q) ≡ stepped row v →
-        happen p (own p) st code node ≡ reply (verdictNumber v) (verdictSite v) (withRow p st q row)
+        happen p (own p) st code node ≡ reply (verdictNumber v) (verdictSite v) (verdictRule v) (withRow p st q row)
     happen-stepped row v h = happens ∙ ap result h
 
 -- A MESSAGE
@@ -113,7 +113,7 @@ pub row-spot : (p st : List ℕ) (n h v : ℕ) → n ≡ size p → stateFits p 
 row-spot p st n h v e f a b = rw e (spot-in st (size p) h v (fits-told p st f) a b)
 
 module _ (p st : List ℕ) (code node q : ℕ) where
-  pub tell-refused : (n : ℕ) → n ≡ invalid p (stateFits p (own p) st) (ltb q (size p)) code node → (n ≡ 0 → ⊥) → tell p (own p) st code node q ≡ reply n 0 st
+  pub tell-refused : (n : ℕ) → n ≡ invalid p (stateFits p (own p) st) (ltb q (size p)) code node → (n ≡ 0 → ⊥) → tell p (own p) st code node q ≡ reply n 0 0 st
   unfolding tell own
   tell-refused n e h = let f = ne-eqb (invalid p (stateFits p (own p) st) (ltb q (size p)) code node) 0 (λ z. h (e ∙ z)) in rw (f, e)
 
@@ -126,16 +126,16 @@ module _ (p st : List ℕ) (code node q : ℕ) where
         rw (← home, code-number code c, byte-at p st h node (ok .node-in))
 
     module _ (n : ℕ) (count : n ≡ size p) where
-      pub tell-false : hasBit (getD st (h * n + node) 0) code ≡ false → tell p (own p) st code node q ≡ reply 12 0 st
+      pub tell-false : hasBit (getD st (h * n + node) 0) code ≡ false → tell p (own p) st code node q ≡ reply 12 0 0 st
       unfolding tell own
       tell-false b = rw (zero, heard-there, ← count, b)
 
       pub tell-done : hasBit (getD st (h * n + node) 0) code ≡ true → (x : ℕ) → x ≡ withBit (getD st (q * n + node) 0) code →
-          tell p (own p) st code node q ≡ reply 0 0 (set st (q * n + node) x)
+          tell p (own p) st code node q ≡ reply 0 0 0 (set st (q * n + node) x)
       unfolding tell own
       tell-done b x e =
           let ok = valid p (stateFits p (own p) st) (ltb q (size p)) code node zero in
-          rw (zero, heard-there, ← count, b) (ap (reply 0 0) (row-hear p st q node (ok .node-in) code ∙ rw (← count, e)))
+          rw (zero, heard-there, ← count, b) (ap (reply 0 0 0) (row-hear p st q node (ok .node-in) code ∙ rw (← count, e)))
 
 -- LENGTHS AND MARKS
 module _ (n len : ℕ) where
@@ -202,16 +202,16 @@ module _ (p st : List ℕ) (code node n q : ℕ) (count : n ≡ size p) (placed 
   pub placed-end : q < n → q * n + n ≤ length st
   placed-end l = let r = row-below (size p) q (size p) (omega arith) in rw (count, placed .here (omega arith) .1) r
 
-  pub happen-nowhere : n ≤ q → (b : Bool) → b ≡ eqb (length st) (n * n) → (r : ℕ) → r ≡ invalid p b true code node → happen p (own p) st code node ≡ reply r 0 st
+  pub happen-nowhere : n ≤ q → (b : Bool) → b ≡ eqb (length st) (n * n) → (r : ℕ) → r ≡ invalid p b true code node → happen p (own p) st code node ≡ reply r 0 0 st
   unfolding stateFits own
   happen-nowhere l b e r f =
       let g : r ≡ invalid p (eqb (length st) (size p * size p)) true code node = f ∙ rw (e, count) in
       happen-refused p st code node r g (λ z. placed .nowhere (omega arith) (sym g ∙ z))
 
   pub happen-there : q < n → (m : ℕ) → m ≡ n → (row : List ℕ) (v : Verdict) → stepOf p code node (take m (drop (q * n) st)) ≡ stepped row v →
-      (x y : ℕ) → x ≡ verdictNumber v → y ≡ verdictSite v → happen p (own p) st code node ≡ reply x y (take (q * n) st ++ (row ++ drop m (drop (q * n) st)))
+      (x y z : ℕ) → x ≡ verdictNumber v → y ≡ verdictSite v → z ≡ verdictRule v → happen p (own p) st code node ≡ reply x y z (take (q * n) st ++ (row ++ drop m (drop (q * n) st)))
   unfolding rowOf withRow stateFits own
-  happen-there l m w row v h x y f g =
+  happen-there l m w row v h x y z f g k =
       let i = placed .here (omega arith) in
       let a : stepOf p code node (take (size p) (drop (q * size p) st)) ≡ stepped row v = rw (w, count) at h in
-      rw (f, g, w, count) (happen-stepped p st code node q (i .0) (eq-eqb (length st) (size p * size p) (i .1)) (omega arith) row v a)
+      rw (f, g, k, w, count) (happen-stepped p st code node q (i .0) (eq-eqb (length st) (size p * size p) (i .1)) (omega arith) row v a)

@@ -46,10 +46,10 @@ steps-next bs i l =
 
 module _ (p bs st₀ st ns : List ℕ) (i : ℕ) (t : Running p bs st₀ st ns i) where
   pub run-turn : i < length bs / 3 → (a b c : ℕ) → a ≡ getD bs (3 * i) 0 → b ≡ getD bs (3 * i + 1) 0 → c ≡ getD bs (3 * i + 2) 0 →
-      (st′ : List ℕ) (x q : ℕ) → simulateOf p a b c st ≡ reply x q st′ → length st′ ≡ length st → Running p bs st₀ st′ (set ns i x) (i + 1)
+      (st′ : List ℕ) (x q r : ℕ) → simulateOf p a b c st ≡ reply x q r st′ → length st′ ≡ length st → Running p bs st₀ st′ (set ns i x) (i + 1)
   unfolding replayFrom numbersFrom simulateOf
-  run-turn l a b c f g h st′ x q e₀ same =
-      let e : simulate p (own p) st (stepFrom (getD bs (3 * i) 0) (getD bs (3 * i + 1) 0) (getD bs (3 * i + 2) 0)) ≡ reply x q st′ = rw (f, g, h) at e₀ in
+  run-turn l a b c f g h st′ x q r e₀ same =
+      let e : simulate p (own p) st (stepFrom (getD bs (3 * i) 0) (getD bs (3 * i + 1) 0) (getD bs (3 * i + 2) 0)) ≡ reply x q r st′ = rw (f, g, h) at e₀ in
       let rest : List Step = stepsFrom (length bs / 3 - (i + 1)) bs (3 * (i + 1)) in
       let front : take (i + 1) (set ns i x) ≡ take i ns ++ (x ∷ []) = ap (λ k. take k (set ns i x)) (add-one i) ∙ take-suc-set ns i x (omega (arith, t .long)) in
       record {

@@ -12,7 +12,7 @@ use Rattle.event.specs.Site.{Layout, siteOf}
 use Rattle.event.specs.Valid.{invalid}
 use Rattle.central.specs.Mark.{Mark, idle, running, offered, committed, failed, turned-down, markNumber}
 use Rattle.site.specs.Row.{heard, hear}
-use Rattle.site.specs.Verdict.{verdictNumber}
+use Rattle.site.specs.Verdict.{verdictNumber, verdictRule}
 use Rattle.site.specs.Step.{Stepped, stepOf}
 
 -- B4: the state is the sites' rows one after another: row q, and the state with another row q
@@ -31,14 +31,15 @@ pub data Step : Type 0 where
 unfoldable pub stepFrom : ℕ → ℕ → ℕ → Step
 stepFrom code node site = cond (eqb site 255) (event code node) (message code node site)
 
--- what a step answers and leaves: its number, 0 passed; the event's site with 0, 10 and 11, else 0
+-- what a step answers and leaves: its number, 0 passed; the event's site with 0, 10 and 11, else 0; the rule of an event that passed, else 0
 pub record Reply : Type 0 where
   pub number : ℕ
   pub site : ℕ
+  pub rule : ℕ
   pub state : List ℕ
 
-abbrev pub reply : ℕ → ℕ → List ℕ → Reply
-reply n q st = record { number = n; site = q; state = st }
+abbrev pub reply : ℕ → ℕ → ℕ → List ℕ → Reply
+reply n q r st = record { number = n; site = q; rule = r; state = st }
 
 -- H7: the state is rows times nodes bytes
 unfoldable pub stateFits : List ℕ → Layout → List ℕ → Bool
@@ -46,20 +47,20 @@ stateFits p lay st = eqb (length st) (lay .rows * size p)
 
 -- I2: an event happens by the step of its site q on row q
 unfoldable pub eventBy : List ℕ → List ℕ → ℕ → Stepped → Reply
-eventBy p st q r = reply (verdictNumber (r .verdict)) q (withRow p st q (r .row))
+eventBy p st q r = reply (verdictNumber (r .verdict)) q (verdictRule (r .verdict)) (withRow p st q (r .row))
 
 unfoldable pub happen : List ℕ → Layout → List ℕ → ℕ → ℕ → Reply
 happen p lay st code node =
-    cond (not (eqb (invalid p (stateFits p lay st) true code node) 0)) (reply (invalid p (stateFits p lay st) true code node) 0 st)
+    cond (not (eqb (invalid p (stateFits p lay st) true code node) 0)) (reply (invalid p (stateFits p lay st) true code node) 0 0 st)
     (eventBy p st (siteOf p lay (eventOf code node)) (stepOf p code node (rowOf p st (siteOf p lay (eventOf code node)))))
 
 -- H12, I2: a message of an event that its own site's row has, to site q
 unfoldable pub tell : List ℕ → Layout → List ℕ → ℕ → ℕ → ℕ → Reply
 tell p lay st code node q =
     cond (not (eqb (invalid p (stateFits p lay st) (ltb q (lay .rows)) code node) 0))
-    (reply (invalid p (stateFits p lay st) (ltb q (lay .rows)) code node) 0 st)
-    (cond (not (heard (rowOf p st (siteOf p lay (eventOf code node))) (eventOf code node))) (reply 12 0 st)
-    (reply 0 0 (withRow p st q (hear (rowOf p st q) code node))))
+    (reply (invalid p (stateFits p lay st) (ltb q (lay .rows)) code node) 0 0 st)
+    (cond (not (heard (rowOf p st (siteOf p lay (eventOf code node))) (eventOf code node))) (reply 12 0 0 st)
+    (reply 0 0 0 (withRow p st q (hear (rowOf p st q) code node))))
 
 unfoldable pub simulate : List ℕ → Layout → List ℕ → Step → Reply
 simulate p lay st (event code node) = happen p lay st code node

@@ -13,10 +13,11 @@ ghost use Rattle.pass.specs.Record.{class};
 ghost use Rattle.simulation.specs.Simulation.{reply, happen, tell, replayFrom, numbersFrom};
 ghost use Rattle.simulation.specs.Run.{Placed, markByte, simulateOf, fitNumber, recorded, recordInto, stepsOf, ran, runOf};
 
-// What a step answers: its number, 0 passed, and the event's site with 0, 10 and 11, else 0.
+// What a step answers: its number, 0 passed; the event's site with 0, 10 and 11, else 0; the rule of an event that passed, else 0.
 pub struct Reply {
     pub number: u8,
     pub site: u8,
+    pub rule: u8,
 }
 
 // len is n times n, with no product that could be too large.
@@ -51,13 +52,17 @@ fn place(plan: &[u8], code: u32, node: u32, len: usize) -> usize
 
 // An event happens: its site's own step on that site's row.
 fn happen(plan: &[u8], code: u32, node: u32, state: &mut [u8]) -> Reply
-    ensures { λ r. ⌜ happen (now (plan .entry)) (own (now (plan .entry))) (now (state .entry)) code node ≡ reply (r .number) (r .site) (now (state .exit)) ⌝ }
+    ensures { λ r. ⌜ happen (now (plan .entry)) (own (now (plan .entry))) (now (state .entry)) code node ≡ reply (r .number) (r .site) (r .rule) (now (state .exit)) ⌝ }
 {
     let n = plan::node_count(plan);
     let q = place(plan, code, node, state.len());
     if n <= q {
         let number = event::validate(plan, is_square(n, state.len()), true, code, node);
-        return Reply { number, site: 0 };
+        return Reply {
+            number,
+            site: 0,
+            rule: 0,
+        };
     }
     let a = q * n;
     let e = a + n;
@@ -65,12 +70,13 @@ fn happen(plan: &[u8], code: u32, node: u32, state: &mut [u8]) -> Reply
     Reply {
         number: site::number(v),
         site: site::verdict_site(v),
+        rule: site::verdict_rule(v),
     }
 }
 
 // A site is told of an event that happened.
 fn tell(plan: &[u8], code: u32, node: u32, site: u32, state: &mut [u8]) -> Reply
-    ensures { λ r. ⌜ tell (now (plan .entry)) (own (now (plan .entry))) (now (state .entry)) code node site ≡ reply (r .number) (r .site) (now (state .exit)) ⌝ }
+    ensures { λ r. ⌜ tell (now (plan .entry)) (own (now (plan .entry))) (now (state .entry)) code node site ≡ reply (r .number) (r .site) (r .rule) (now (state .exit)) ⌝ }
 {
     let n = plan::node_count(plan);
     let number = event::validate(
@@ -81,7 +87,11 @@ fn tell(plan: &[u8], code: u32, node: u32, site: u32, state: &mut [u8]) -> Reply
         node,
     );
     if number != 0 {
-        return Reply { number, site: 0 };
+        return Reply {
+            number,
+            site: 0,
+            rule: 0,
+        };
     }
     let v = node as usize;
     let home = plan::wide(event::host(plan, code as u8, node as u8));
@@ -89,16 +99,21 @@ fn tell(plan: &[u8], code: u32, node: u32, site: u32, state: &mut [u8]) -> Reply
         return Reply {
             number: 12,
             site: 0,
+            rule: 0,
         };
     }
     let at = site as usize * n + v;
     state[at] = event::with_bit(state[at], code as u8);
-    Reply { number: 0, site: 0 }
+    Reply {
+        number: 0,
+        site: 0,
+        rule: 0,
+    }
 }
 
 // One step. Site 255: the event happens; any other site is told of it.
 pub fn simulate(plan: &[u8], code: u32, node: u32, site: u32, state: &mut [u8]) -> Reply
-    ensures { λ r. ⌜ simulateOf (now (plan .entry)) code node site (now (state .entry)) ≡ reply (r .number) (r .site) (now (state .exit)) ⌝ }
+    ensures { λ r. ⌜ simulateOf (now (plan .entry)) code node site (now (state .entry)) ≡ reply (r .number) (r .site) (r .rule) (now (state .exit)) ⌝ }
 {
     if site == 255 {
         return happen(plan, code, node, state);

@@ -15,8 +15,10 @@ use Rattle.event.specs.Event.{isCode, eventOf, known, applies}
 use Rattle.event.specs.Valid.{invalid, Valid}
 use Rattle.event.proofs.ValidLaws.{valid, invalid-none}
 use Rattle.guard.specs.Guard.{guard, holds, barred}
+use Rattle.guard.specs.Rule.{ruleByte}
 use Rattle.guard.specs.Bytes.{encode}
 use Rattle.guard.specs.Written.{filled, writeOf}
+use Rattle.guard.specs.declared.WrittenGuard.{WrittenGuard}
 use Rattle.guard.specs.declared.Written.{Written}
 use Rattle.guard.specs.declared.Written.the-variants.{Done, Refused as Unwritten}
 use Rattle.guard.proofs.WriteLaws.{write-done, write-refused}
@@ -74,29 +76,31 @@ module _ (p : List ℕ) (code node : ℕ) (row : List ℕ) where
   step-decides ok long low high fits = step-valid (rw (eq-eqb (length row) (size p) long)
       (invalid-none p true true code node ((check-exact p) .1 ok) refl refl (rw (le-leb 1 code low, le-leb code 8 high) (and-left _ _ fits)) fits))
 
-  -- the guard writer passed all tests, and left the guard in b
-  pub record Ready (b : List ℕ) : Type 0 where
+  -- the guard writer passed all tests, left the guard in b and answered g
+  pub record Ready (b : List ℕ) (g : WrittenGuard) : Type 0 where
     pub valid : Valid p true true code node
     pub within : node < length row
     pub met : bytesHold row b ≡ holds (heard row) (guard p (eventOf code node))
+    pub named : g .rule ≡ ruleByte p (eventOf code node)
     pub decides : stepOf p code node row ≡ decide p code node row
 
   -- what it answers for a row of the plan's length and a buffer b, which it leaves as b′
-  module _ (long : length row ≡ size p) (b b′ : List ℕ) (w : Written) (wrote : writeOf p code node b ≡ filled b′ w) (n : ℕ) where
-    pub step-ready : w ≡ Done n → Ready b′
-    step-ready e =
-        let t = write-done p code node b b′ n (wrote ∙ ap (filled b′) e) in
+  module _ (long : length row ≡ size p) (b b′ : List ℕ) (w : Written) (wrote : writeOf p code node b ≡ filled b′ w) where
+    pub step-ready : (g : WrittenGuard) → w ≡ Done g → Ready b′ g
+    step-ready g e =
+        let t = write-done p code node b b′ g (wrote ∙ ap (filled b′) e) in
         let v = t .valid in record {
           valid = v;
           within = omega (arith, v .node-in);
           met = ap (bytesHold row) (t .buffer) ∙ bytes-encoded row (guard p (eventOf code node)) (drop (length (encode (guard p (eventOf code node)))) b);
+          named = t .rule;
           decides = step-decides (v .plan) long (v .low) (v .high) (v .applied);
         }
 
     -- 290 bytes have room for every guard
-    pub step-unwritten : w ≡ Unwritten n → 290 ≤ length b → stepOf p code node row ≡ stepped row (Refused (Invalid n))
+    pub step-unwritten : (n : ℕ) → w ≡ Unwritten n → 290 ≤ length b → stepOf p code node row ≡ stepped row (Refused (Invalid n))
     unfolding stepInvalid
-    step-unwritten e room =
+    step-unwritten n e room =
         let t = write-refused p code node b b′ n (wrote ∙ ap (filled b′) e) room in
         step-invalid n (rw (eq-eqb (length row) (size p) long) (t .number)) (t .failed)
 
@@ -108,7 +112,7 @@ module _ (p : List ℕ) (code node : ℕ) (row : List ℕ) where
   decision-11 = stepped row (Refused (Unmet (siteAt p code node)))
 
   abbrev pub decision-0 : Stepped
-  decision-0 = stepped (hear row code node) (Passed (record { code = code; node = node; site = siteAt p code node }))
+  decision-0 = stepped (hear row code node) (Passed (record { code = code; node = node; site = siteAt p code node; rule = ruleByte p (eventOf code node) }))
 
   pub decide-barred : barred p (heard row) (eventOf code node) ≡ true → decide p code node row ≡ decision-10
   unfolding decide

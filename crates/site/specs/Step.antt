@@ -9,6 +9,7 @@ use Rattle.event.specs.Event.{Event, eventOf}
 use Rattle.event.specs.Site.{own, siteOf}
 use Rattle.event.specs.Valid.{invalid}
 use Rattle.guard.specs.Guard.{guard, holds, barred}
+use Rattle.guard.specs.Rule.{ruleByte}
 use Rattle.site.specs.Row.{heard, hear}
 use Rattle.site.specs.declared.PassedEvent.{PassedEvent}
 use Rattle.site.specs.declared.Refusal.{Refusal}
@@ -37,7 +38,7 @@ unfoldable pub decide : List ℕ → ℕ → ℕ → List ℕ → Stepped
 decide p code node row =
     cond (barred p (heard row) (eventOf code node)) (stepped row (Refused (Barred (siteAt p code node))))
     (cond (not (holds (heard row) (guard p (eventOf code node)))) (stepped row (Refused (Unmet (siteAt p code node))))
-    (stepped (hear row code node) (Passed (record { code = code; node = node; site = siteAt p code node }))))
+    (stepped (hear row code node) (Passed (record { code = code; node = node; site = siteAt p code node; rule = ruleByte p (eventOf code node) }))))
 
 -- H16
 unfoldable pub stepOf : List ℕ → ℕ → ℕ → List ℕ → Stepped

@@ -1,4 +1,4 @@
--- The number and the site of every verdict (rules H10, H11 and H16). Definitions only.
+-- The number, the site and the rule of every verdict (rules C10, H10, H11 and H16). Definitions only.
 use Prim.Native.Nat.{ℕ}
 use Rattle.site.specs.declared.PassedEvent.{PassedEvent}
 use Rattle.site.specs.declared.Refusal.{Refusal}
@@ -26,3 +26,8 @@ verdictNumber (Refused why) = refusalNumber why
 unfoldable pub verdictSite : Verdict → ℕ
 verdictSite (Passed e) = e .site
 verdictSite (Refused why) = refusalSite why
+
+-- the rule goes with an event that passed
+unfoldable pub verdictRule : Verdict → ℕ
+verdictRule (Passed e) = e .rule
+verdictRule (Refused why) = 0

@@ -9,15 +9,17 @@ ghost use Prim.Native.Nat.{_<_};
 ghost use lib.ListN.{length};
 ghost use Rattle.event.specs.Event.{eventOf};
 ghost use Rattle.guard.specs.Guard.{guard, holds};
+ghost use Rattle.guard.specs.Rule.{ruleByte};
 ghost use Rattle.site.specs.Row.{heardIn, heard, bytesHold};
-ghost use Rattle.site.specs.Verdict.{verdictNumber, verdictSite};
+ghost use Rattle.site.specs.Verdict.{verdictNumber, verdictSite, verdictRule};
 ghost use Rattle.site.specs.Step.{stepped, decide, stepOf, told, hearOf};
 
-// An event that passed, with its site.
+// An event that passed, with its site and the rule behind its guard.
 pub struct PassedEvent {
     pub code: u8,
     pub node: u8,
     pub site: u8,
+    pub rule: u8,
 }
 
 // Why a step is refused: the call is invalid, with the number of the test that failed (1 to 9); barred or its guard unmet, with the event's site.
@@ -61,6 +63,16 @@ pub fn verdict_site(v: Verdict) -> u8
     }
 }
 
+// The rule that goes with a verdict, and 0 with a refusal.
+pub fn verdict_rule(v: Verdict) -> u8
+    ensures { λ r. ⌜ r ≡ verdictRule v ⌝ }
+{
+    match v {
+        Verdict::Passed(e) => e.rule,
+        Verdict::Refused(_) => 0,
+    }
+}
+
 // The row has the event; past its end nothing is heard.
 pub fn heard(row: &[u8], code: u8, node: usize) -> bool
     ensures { λ r. ⌜ r ≡ heardIn (now (row .entry)) code node ⌝ }
@@ -80,9 +92,9 @@ pub fn hear(plan: &[u8], code: u32, node: u32, row: &mut [u8]) -> u8
     0
 }
 
-// A known event that applies, on a row of the plan's size, with its guard's bytes.
-fn decide(plan: &[u8], code: u8, v: u8, g: &[u8], row: &mut [u8]) -> Verdict
-    requires { ⌜ v < length (now row) ⌝ }
+// A known event that applies, on a row of the plan's size, with its guard's bytes and rule.
+fn decide(plan: &[u8], code: u8, v: u8, g: &[u8], rule: u8, row: &mut [u8]) -> Verdict
+    requires { ⌜ (v < length (now row)) × (rule ≡ ruleByte (now plan) (eventOf code v)) ⌝ }
     requires { ⌜ bytesHold (now row) (now g) ≡ holds (heard (now row)) (guard (now plan) (eventOf code v)) ⌝ }
     ensures { λ r. ⌜ decide (now (plan .entry)) code v (now (row .entry)) ≡ stepped (now (row .exit)) r ⌝ }
 {
@@ -98,6 +110,7 @@ fn decide(plan: &[u8], code: u8, v: u8, g: &[u8], row: &mut [u8]) -> Verdict
         code,
         node: v,
         site,
+        rule,
     })
 }
 
@@ -113,6 +126,6 @@ pub fn step(plan: &[u8], code: u32, node: u32, row: &mut [u8]) -> Verdict
     let mut buf = [0u8; 290];
     match guard::write_guard(plan, code, node, &mut buf) {
         guard::Written::Refused(n) => Verdict::Refused(Refusal::Invalid(n)),
-        guard::Written::Done(_) => decide(plan, code as u8, node as u8, &buf, row),
+        guard::Written::Done(g) => decide(plan, code as u8, node as u8, &buf, g.rule, row),
     }
 }

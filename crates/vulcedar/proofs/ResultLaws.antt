@@ -5,6 +5,7 @@ use Prim.Native.Nat.{ℕ, _*_, _≤_}
 use native.Mathlib.Omega.{arith}
 use Rattle.event.specs.Event.{eventOf}
 use Rattle.guard.specs.Written.{filled, writeOf}
+use Rattle.guard.specs.declared.WrittenGuard.{WrittenGuard}
 use Rattle.guard.specs.declared.Written.{Written}
 use Rattle.guard.specs.declared.Written.the-variants.{Done, Refused}
 use Rattle.guard.proofs.WriteLaws.{write-done}
@@ -13,20 +14,20 @@ use Rattle.central.specs.Rule.{Ruled, ruled}
 use Rattle.central.specs.declared.Ruling.{Ruling}
 use Rattle.vulcedar.specs.Result.{result, ofWritten, ofRuling}
 
-module _ (p : List ℕ) (code node : ℕ) (b b′ : List ℕ) (w : Written) (h : writeOf p code node b ≡ filled b′ w) (n : ℕ) where
-  pub done-short : w ≡ Done n → n ≤ 290
-  done-short e = let d = write-done p code node b b′ n (h ∙ ap (filled b′) e) in omega (arith, d .long, guard-short p (d .valid .plan) (eventOf code node))
+module _ (p : List ℕ) (code node : ℕ) (b b′ : List ℕ) (w : Written) (h : writeOf p code node b ≡ filled b′ w) where
+  pub done-short : (g : WrittenGuard) → w ≡ Done g → g .length ≤ 290
+  done-short g e = let d = write-done p code node b b′ g (h ∙ ap (filled b′) e) in omega (arith, d .long, guard-short p (d .valid .plan) (eventOf code node))
 
-  pub done-result : w ≡ Done n → (65536 * n ≡ ofWritten (writeOf p code node b .answer)) × (b′ ≡ writeOf p code node b .buffer)
+  pub done-result : (g : WrittenGuard) → w ≡ Done g → (65536 * g .length ≡ ofWritten (writeOf p code node b .answer)) × (b′ ≡ writeOf p code node b .buffer)
   unfolding ofWritten
-  done-result e =
+  done-result g e =
       let q = h ∙ ap (filled b′) e in
-      let z : 65536 * n ≡ result 0 0 n = omega arith in
+      let z : 65536 * g .length ≡ result 0 0 (g .length) = omega arith in
       (z ∙ sym (ap (λ s. ofWritten (s .answer)) q), sym (ap (λ s. s .buffer) q))
 
-  pub refused-result : w ≡ Refused n → (r : ℕ) → r ≡ result n 0 0 → (r ≡ ofWritten (writeOf p code node b .answer)) × (b′ ≡ writeOf p code node b .buffer)
+  pub refused-result : (n : ℕ) → w ≡ Refused n → (r : ℕ) → r ≡ result n 0 0 → (r ≡ ofWritten (writeOf p code node b .answer)) × (b′ ≡ writeOf p code node b .buffer)
   unfolding ofWritten
-  refused-result e r f =
+  refused-result n e r f =
       let q = h ∙ ap (filled b′) e in
       (f ∙ sym (ap (λ s. ofWritten (s .answer)) q), sym (ap (λ s. s .buffer) q))
 

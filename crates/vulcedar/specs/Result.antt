@@ -1,8 +1,9 @@
 -- Results for C (rules K). Definitions only.
 use Prim.Native.Nat.{ℕ, _+_, _*_}
+use Rattle.guard.specs.Rule.{Named}
 use Rattle.guard.specs.declared.Written.{Written}
 use Rattle.guard.specs.declared.Written.the-variants as written
-use Rattle.site.specs.Verdict.{verdictNumber, verdictSite}
+use Rattle.site.specs.Verdict.{verdictNumber, verdictSite, verdictRule}
 use Rattle.site.specs.declared.Verdict.{Verdict}
 use Rattle.central.specs.declared.Ruling.{Ruling}
 use Rattle.central.specs.declared.Ruling.the-variants as ruling
@@ -13,12 +14,16 @@ result n q v = n + 256 * q + 65536 * v
 
 -- K2: the guard's length is the value
 unfoldable pub ofWritten : Written → ℕ
-ofWritten (written.Done n) = result 0 0 n
+ofWritten (written.Done g) = result 0 0 (g .length)
 ofWritten (written.Refused n) = result n 0 0
 
--- K1: a verdict's number and site
+-- K2: the rule is the value
+unfoldable pub ofNamed : Named → ℕ
+ofNamed r = result (r .number) 0 (r .rule)
+
+-- K1, K2: a verdict's number, site and rule
 unfoldable pub ofVerdict : Verdict → ℕ
-ofVerdict v = result (verdictNumber v) (verdictSite v) 0
+ofVerdict v = result (verdictNumber v) (verdictSite v) (verdictRule v)
 
 -- K2: allowed is the value 1, forbidden 0
 unfoldable pub ofRuling : Ruling → ℕ

@@ -5,12 +5,13 @@ ghost use Prim.Native.Nat.{_+_, _*_, _≤_};
 ghost use Rattle.plan.specs.Check.{checkNumber};
 ghost use Rattle.rewrite.specs.Rewrite.{rewriteOf};
 ghost use Rattle.plan.specs.Depths.{depthsOf};
+ghost use Rattle.guard.specs.Rule.{ruleAnswer};
 ghost use Rattle.guard.specs.Written.{writeOf};
 ghost use Rattle.site.specs.Step.{stepOf, hearOf};
 ghost use Rattle.central.specs.Rule.{ruleOf};
 ghost use Rattle.pass.specs.Pass.{passInto};
 ghost use Rattle.simulation.specs.Run.{simulateOf, recordInto};
-ghost use Rattle.vulcedar.specs.Result.{result, ofWritten, ofVerdict, ofRuling};
+ghost use Rattle.vulcedar.specs.Result.{result, ofWritten, ofNamed, ofVerdict, ofRuling};
 
 fn wide32(x: u8) -> u32
     ensures { λ r. ⌜ r ≡ x ⌝ }
@@ -22,6 +23,12 @@ fn packed(number: u8, site: u8) -> u32
     ensures { λ r. ⌜ r ≡ result number site 0 ⌝ }
 {
     wide32(number) + 256 * wide32(site)
+}
+
+fn with_rule(number: u8, site: u8, rule: u8) -> u32
+    ensures { λ r. ⌜ r ≡ result number site rule ⌝ }
+{
+    packed(number, site) + 65536 * wide32(rule)
 }
 
 #[no_mangle]
@@ -54,9 +61,17 @@ pub extern "C" fn vulcedar_guard(plan: &[u8], code: u32, node: u32, buf: &mut [u
 {
     let w = guard::write_guard(plan, code, node, buf);
     match w {
-        guard::Written::Done(n) => 65536 * (n as u32),
+        guard::Written::Done(g) => 65536 * (g.length as u32),
         guard::Written::Refused(n) => packed(n, 0),
     }
+}
+
+#[no_mangle]
+pub extern "C" fn vulcedar_rule(plan: &[u8], code: u32, node: u32) -> u32
+    ensures { λ r. ⌜ r ≡ ofNamed (ruleAnswer (now (plan .entry)) code node) ⌝ }
+{
+    let r = guard::rule(plan, code, node);
+    with_rule(r.number, 0, r.rule)
 }
 
 #[no_mangle]
@@ -65,7 +80,11 @@ pub extern "C" fn vulcedar_step(plan: &[u8], code: u32, node: u32, row: &mut [u8
     ensures { λ r. ⌜ now (row .exit) ≡ stepOf (now (plan .entry)) code node (now (row .entry)) .row ⌝ }
 {
     let v = site::step(plan, code, node, row);
-    packed(site::number(v), site::verdict_site(v))
+    with_rule(
+        site::number(v),
+        site::verdict_site(v),
+        site::verdict_rule(v),
+    )
 }
 
 #[no_mangle]
@@ -92,11 +111,11 @@ pub extern "C" fn vulcedar_simulate(
     site: u32,
     state: &mut [u8],
 ) -> u32
-    ensures { λ r. ⌜ r ≡ result (simulateOf (now (plan .entry)) code node site (now (state .entry)) .number) (simulateOf (now (plan .entry)) code node site (now (state .entry)) .site) 0 ⌝ }
+    ensures { λ r. ⌜ r ≡ result (simulateOf (now (plan .entry)) code node site (now (state .entry)) .number) (simulateOf (now (plan .entry)) code node site (now (state .entry)) .site) (simulateOf (now (plan .entry)) code node site (now (state .entry)) .rule) ⌝ }
     ensures { λ r. ⌜ now (state .exit) ≡ simulateOf (now (plan .entry)) code node site (now (state .entry)) .state ⌝ }
 {
     let r = simulation::simulate(plan, code, node, site, state);
-    packed(r.number, r.site)
+    with_rule(r.number, r.site, r.rule)
 }
 
 #[no_mangle]

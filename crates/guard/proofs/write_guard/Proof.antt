@@ -29,6 +29,10 @@ module _ (c : tie.Else1) where
   short : let a = c .before .before .before .before .args in length (encode (guard (a .plan .now) (eventOf (a .code) (a .node)))) ≤ 290
   short = guard-short _ (ok .plan) _
 
+-- the tests had passed when the guard was copied
+abbrev passed : tie.After-slice-known2 → tie.Else1
+passed c = c .before .before .before .before .before .before .before .before .before
+
 validate-requires : tie.Need-validate-requires
 validate-requires c κs = tt
 
@@ -48,7 +52,7 @@ fill-requires : tie.Need-fill-requires
 fill-requires c κs = let v = ok (c .before) in ((v .plan, v .low, v .high), omega arith)
 
 returns-2 : tie.Need-returns-2
-returns-2 c = write-valid _ _ _ _ (zero (c .before .before .before .before)) ∙ fitted-not _ _ (omega (arith, c .before .before .fill .ensures .place, c .if2 .taken))
+returns-2 c = write-valid _ _ _ _ (zero (c .before .before .before .before)) ∙ fitted-not _ _ _ (omega (arith, c .before .before .fill .ensures .place, c .if2 .taken))
 
 array-share-prefix-local : tie.Need-array-share-prefix-local
 array-share-prefix-local c = front-in (c .before .before .fill .ensures) (short (c .before .before .before .before))
@@ -59,14 +63,23 @@ slice-aggregate-copy c = front-length (c .before .before .before .fill .ensures)
 copy-requires : tie.Need-copy-requires
 copy-requires c κs = let e = front-length (c .before .before .before .before .fill .ensures) (short (c .before .before .before .before .before .before)) in omega (arith, c .before .before .if2 .left)
 
+cast-rule-byte : tie.Need-cast-rule-byte
+cast-rule-byte c = let v = ok (passed c) in omega arith
+
+cast-rule-byte-2 : tie.Need-cast-rule-byte-2
+cast-rule-byte-2 c = let v = ok (passed c) in omega (arith, v .plan .few)
+
+rule-byte-requires : tie.Need-rule-byte-requires
+rule-byte-requires c κs = let v = ok (passed c) in ((v .plan, v .low, v .high), v .node-in)
+
 same-length : tie.Need-same-length
 same-length c = search needs
 
 returns-3 : tie.Need-returns-3
-returns-3 c = let s = c .before .before .before .before .before .before .before in
+returns-3 c = let s = c .before .before .before .before .before .before .before .before in
     write-valid _ _ _ _ (zero (s .before .before))
-    ∙ fitted-done _ _ (omega (arith, s .fill .ensures .place, c .before .before .before .before .before .if2 .left))
-    ∙ copied _ (s .fill .ensures) (short (s .before .before)) refl (c .before .before .copy .ensures .1)
+    ∙ fitted-done _ _ _ (omega (arith, s .fill .ensures .place, c .before .before .before .before .before .before .if2 .left))
+    ∙ copied _ (s .fill .ensures) (short (s .before .before)) refl (c .before .before .before .copy .ensures .1) (c .rule-byte .ensures)
 
 pub write-guard-spec : {M : Type 1} → statement M
 write-guard-spec =
@@ -82,5 +95,8 @@ write-guard-spec =
     array-share-prefix-local
     slice-aggregate-copy
     copy-requires
+    cast-rule-byte
+    cast-rule-byte-2
+    rule-byte-requires
     same-length
     returns-3)

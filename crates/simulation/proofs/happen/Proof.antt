@@ -51,11 +51,14 @@ number-requires c κs = search needs
 verdict-site-requires : tie.Need-verdict-site-requires
 verdict-site-requires c κs = search needs
 
+verdict-rule-requires : tie.Need-verdict-rule-requires
+verdict-rule-requires c κs = search needs
+
 same-length : tie.Need-same-length
 same-length c = search needs
 
 returns-2 : tie.Need-returns-2
-returns-2 c = happen-there _ _ _ _ _ _ (c .before .before .before .before .before .before .before .before .node-count .ensures) (c .before .before .before .before .before .before .before .place .ensures) (c .before .before .before .before .before .before .if1 .left) _ (part-width _ _) _ _ (c .before .before .before .before .step .ensures) _ _ (c .before .number .ensures) (c .verdict-site .ensures)
+returns-2 c = let b = c .before in happen-there _ _ _ _ _ _ (b .before .before .before .before .before .before .before .before .node-count .ensures) (b .before .before .before .before .before .before .before .place .ensures) (b .before .before .before .before .before .before .if1 .left) _ (part-width _ _) _ _ (b .before .before .before .before .step .ensures) _ _ _ (b .before .number .ensures) (b .verdict-site .ensures) (c .verdict-rule .ensures)
 
 pub happen-spec : {M : Type 1} → statement M
 happen-spec =
@@ -74,5 +77,6 @@ happen-spec =
     step-requires
     number-requires
     verdict-site-requires
+    verdict-rule-requires
     same-length
     returns-2)

@@ -57,7 +57,7 @@ loop-less : tie.Need-loop-less Inv-loop μ-loop
 loop-less c = omega (arith, c .before .before .before .before .before .before .before .before .before .before .before .loop .inv .long)
 
 loop-again : tie.Need-loop-again Inv-loop μ-loop
-loop-again c = run-turn _ _ _ _ _ _ (c .before .before .before .before .before .before .before .before .before .before .before .loop .inv) (omega (arith, c .before .before .before .before .before .before .before .before .before .before .before .loop .inv .long)) _ _ _ (c .before .before .before .before .before .before .before .before .wide32 .ensures) (c .before .before .before .before .before .before .wide322 .ensures) (c .before .before .before .before .wide323 .ensures) _ _ _ (c .before .before .simulate .ensures) (search needs)
+loop-again c = run-turn _ _ _ _ _ _ (c .before .before .before .before .before .before .before .before .before .before .before .loop .inv) (omega (arith, c .before .before .before .before .before .before .before .before .before .before .before .loop .inv .long)) _ _ _ (c .before .before .before .before .before .before .before .before .wide32 .ensures) (c .before .before .before .before .before .before .wide322 .ensures) (c .before .before .before .before .wide323 .ensures) _ _ _ _ (c .before .before .simulate .ensures) (search needs)
 
 same-length : tie.Need-same-length Inv-loop μ-loop
 same-length c = c .before .loop .inv .kept

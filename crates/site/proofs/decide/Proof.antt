@@ -52,7 +52,8 @@ returns-3 c =
     let t = c .before .before .before .before in
     let b = t .before .before .before in
     let h = b .before .before .before in
-    decide-passed _ _ _ _ (unbarred b) (sym (h .before .before .before .before .pre .1) ∙ sym (t .before .holds .ensures) ∙ not-false _ (t .if2 .left)) ∙ rw (h .host .ensures, c .before .before .set-heard .ensures)
+    let s = h .before .before .before .before in
+    decide-passed _ _ _ _ (unbarred b) (sym (h .before .before .before .before .pre .1) ∙ sym (t .before .holds .ensures) ∙ not-false _ (t .if2 .left)) ∙ rw (h .host .ensures, c .before .before .set-heard .ensures, s .pre .0 .1)
 
 pub decide-spec : {M : Type 1} → statement M
 decide-spec =

@@ -13,9 +13,9 @@ long : (c : tie.Else1) → length (c .before .before .before .before .args .row 
 long c = c .if1 .left ∙ c .before .node-count .ensures
 
 -- the guard was written
-ready : (c : tie.After-enum-told) → let w = c .before .before .before in let s = w .before .before .before .before .before .before in
-    Ready (s .args .plan .now) (s .args .code) (s .args .node) (s .args .row .now) (w .write-guard .last .1 .1 .1 .0)
-ready c = let w = c .before .before .before in step-ready _ _ _ _ (long (w .before .before)) _ _ _ (w .write-guard .ensures) _ (c .enum-told .given .1)
+ready : (c : tie.After-known-told2) → let w = c .before .before .before .before in let s = w .before .before .before .before .before .before in
+    Ready (s .args .plan .now) (s .args .code) (s .args .node) (s .args .row .now) (w .write-guard .last .1 .1 .1 .0) (c .before .g .given .0 .0)
+ready c = let w = c .before .before .before .before in step-ready _ _ _ _ (long (w .before .before)) _ _ _ (w .write-guard .ensures) _ (c .before .g .given .1)
 
 node-count-requires : tie.Need-node-count-requires
 node-count-requires c κs = search needs
@@ -35,8 +35,8 @@ write-guard-requires c κs = search needs
 enum-known-n : tie.Need-enum-known-n
 enum-known-n c = search needs
 
-enum-told : tie.Need-enum-told
-enum-told c = search needs
+enum-known-g : tie.Need-enum-known-g
+enum-known-g c = search needs
 
 cast-decide : tie.Need-cast-decide
 cast-decide c = let r = ready c .valid in omega arith
@@ -48,7 +48,7 @@ slice-aggregate-decide : tie.Need-slice-aggregate-decide
 slice-aggregate-decide c = search needs
 
 decide-requires : tie.Need-decide-requires
-decide-requires c κs = let r = ready (c .before .before) in (r .within, r .met)
+decide-requires c κs = let r = ready (c .before .before) in ((r .within, r .named), r .met)
 
 returns-2 : tie.Need-returns-2
 returns-2 c = let w = c .before .before .before .before in step-unwritten _ _ _ _ (long (w .before .before)) _ _ _ (w .write-guard .ensures) _ (c .before .n .given .1) (omega arith)
@@ -69,7 +69,7 @@ step-spec =
     slice-aggregate-write-guard
     write-guard-requires
     enum-known-n
-    enum-told
+    enum-known-g
     cast-decide
     cast-decide-2
     slice-aggregate-decide

@@ -6,7 +6,7 @@ use borrow.Author.Needs.{needs}
 use Rattle.vulcedar.proofs.vulcedar_guard.Statement.{statement}
 use Rattle.vulcedar.proofs.vulcedar_guard.Tie as tie
 
-short : (c : tie.After-known-told) → c .before .w .given .0 .0 ≤ 290
+short : (c : tie.After-known-told) → c .before .w .given .0 .0 .length ≤ 290
 short c = done-short _ _ _ _ _ _ (c .before .before .before .before .before .write-guard .ensures) _ (c .before .w .given .1)
 
 write-guard-requires : tie.Need-write-guard-requires
@@ -16,10 +16,10 @@ enum-known-w : tie.Need-enum-known-w
 enum-known-w c = search needs
 
 cast-result : tie.Need-cast-result
-cast-result c = let l = short c in omega arith
+cast-result c = let l = short (c .before) in omega arith
 
 mul-result : tie.Need-mul-result
-mul-result c = let l = short c in omega arith
+mul-result c = let l = short (c .before) in omega arith
 
 enum-known-w-2 : tie.Need-enum-known-w-2
 enum-known-w-2 c = search needs
@@ -31,7 +31,7 @@ same-length : tie.Need-same-length
 same-length c = search needs
 
 returns : tie.Need-returns
-returns c = done-result _ _ _ _ _ _ (c .before .before .before .before .before .write-guard .ensures) _ (c .before .w .given .1)
+returns c = let t = c .before in done-result _ _ _ _ _ _ (t .before .before .before .before .before .write-guard .ensures) _ (t .before .w .given .1)
 
 same-length-2 : tie.Need-same-length-2
 same-length-2 c = search needs

@@ -8,14 +8,14 @@ use Rattle.vulcedar.proofs.vulcedar_simulate.Tie as tie
 simulate-requires : tie.Need-simulate-requires
 simulate-requires c κs = search needs
 
-packed-requires : tie.Need-packed-requires
-packed-requires c κs = search needs
+with-rule-requires : tie.Need-with-rule-requires
+with-rule-requires c κs = search needs
 
 same-length : tie.Need-same-length
 same-length c = search needs
 
 returns : tie.Need-returns
-returns c = let e = sym (c .before .before .before .simulate .ensures) in (c .packed .ensures ∙ ap (λ s. result (s .number) (s .site) 0) e, ap (λ s. s .state) e)
+returns c = let e = sym (c .before .before .before .simulate .ensures) in (c .with-rule .ensures ∙ ap (λ s. result (s .number) (s .site) (s .rule)) e, ap (λ s. s .state) e)
 
 pub vulcedar-simulate-spec : {M : Type 1} → statement M
-vulcedar-simulate-spec = tie.close (tie.spec simulate-requires packed-requires same-length returns)
+vulcedar-simulate-spec = tie.close (tie.spec simulate-requires with-rule-requires same-length returns)

@@ -14,15 +14,18 @@ number-requires c κs = search needs
 verdict-site-requires : tie.Need-verdict-site-requires
 verdict-site-requires c κs = search needs
 
-packed-requires : tie.Need-packed-requires
-packed-requires c κs = search needs
+verdict-rule-requires : tie.Need-verdict-rule-requires
+verdict-rule-requires c κs = search needs
+
+with-rule-requires : tie.Need-with-rule-requires
+with-rule-requires c κs = search needs
 
 same-length : tie.Need-same-length
 same-length c = search needs
 
 returns : tie.Need-returns
 unfolding ofVerdict
-returns c = let e = sym (c .before .before .before .before .before .step .ensures) in (c .packed .ensures ∙ rw (c .before .before .number .ensures, c .before .verdict-site .ensures) (ap (λ s. ofVerdict (s .verdict)) e), ap (λ s. s .row) e)
+returns c = let e = sym (c .before .before .before .before .before .before .step .ensures) in (c .with-rule .ensures ∙ rw (c .before .before .before .number .ensures, c .before .before .verdict-site .ensures, c .before .verdict-rule .ensures) (ap (λ s. ofVerdict (s .verdict)) e), ap (λ s. s .row) e)
 
 pub vulcedar-step-spec : {M : Type 1} → statement M
 vulcedar-step-spec =
@@ -31,6 +34,7 @@ vulcedar-step-spec =
     step-requires
     number-requires
     verdict-site-requires
-    packed-requires
+    verdict-rule-requires
+    with-rule-requires
     same-length
     returns)

@@ -1,0 +1,32 @@
+// The rule behind a guard, as one byte.
+ghost use mathlib.Core.Path.{_≡_};
+ghost use Prim.Native.Nat.{_≤_, _<_};
+ghost use Rattle.plan.specs.Plan.{size};
+ghost use Rattle.plan.specs.Check.{Accepted};
+ghost use Rattle.event.specs.Event.{codeOf, eventOf};
+ghost use Rattle.guard.specs.Rule.{ruleKind, ruleByte};
+
+// The kind whose children or siblings the guard names.
+fn kind_named(plan: &[u8], code: u8, v: u8) -> u8
+    requires { ⌜ (1 ≤ code) × (code ≤ 8) ⌝ }
+    ensures { λ r. ⌜ r ≡ ruleKind (now (plan .entry)) (codeOf code) v ⌝ }
+{
+    if (code == 1) & (v == 0) {
+        return 0;
+    }
+    if (code == 1) | (code >= 7) {
+        return plan::above(plan, v);
+    }
+    plan::kind(plan, v)
+}
+
+pub(crate) fn rule_byte(plan: &[u8], code: u8, v: u8) -> u8
+    requires { ⌜ Accepted (now plan) × (1 ≤ code) × (code ≤ 8) ⌝ }
+    requires { ⌜ v < size (now plan) ⌝ }
+    ensures { λ r. ⌜ r ≡ ruleByte (now (plan .entry)) (eventOf code v) ⌝ }
+{
+    if (code == 3) & (plan::above(plan, v) == 5) {
+        return 0xf3;
+    }
+    16 * kind_named(plan, code, v) + code
+}
