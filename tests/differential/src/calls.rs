@@ -25,6 +25,7 @@ pub fn damaged_plans<S: Implementation, R: Implementation>(trial: &mut Trial<S, 
         let (one, two) = (random.bytes(one), random.bytes(two));
         let state = state_bytes(random, nodes);
         trial.guard(&plan, code, node, &one);
+        trial.rule(&plan, code, node);
         trial.step(&plan, code, node, &one);
         trial.hear(&plan, code, node, &one);
         trial.pass(&plan, &one, &two);
@@ -68,6 +69,7 @@ pub fn guards<S: Implementation, R: Implementation>(
     trial.check(plan);
     for _ in 0..60 {
         let (code, node) = apt_event(random, &tree);
+        trial.rule(plan, code, node);
         let long = random.bytes(LONG_BUFFER);
         let exact = value(trial.guard(plan, code, node, &long)) as usize;
         let other = random.below(exact + 5);
