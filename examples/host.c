@@ -42,6 +42,7 @@ static const struct { uint8_t kind, parent; const char *name; } DAY[] = {
 enum { NODES = sizeof DAY / sizeof DAY[0], LINE = 4096 };
 
 static const char *const CODE[] = { "?", "start", "offer", "commit", "abort", "yes", "no", "pick", "turn-down" };
+static const char *const KIND[] = { "root", "task", "serial", "and", "or", "xor", "contingency", "conditional", "waiting and" };
 static const char *const MARK[] = { "not started", "running", "offered", "committed", "failed", "turned down" };
 static const char *const CLASS[] = { "none", "aired", "draft", "log only" };
 
@@ -87,6 +88,13 @@ static void print_guard(uint32_t code, uint32_t node)
     }
 }
 
+/* The rule of an event that passed, in words: the kind it goes by, and the event. */
+static void print_rule(uint32_t rule)
+{
+    if (rule == 0xf3) printf("xor's picked child: commit");
+    else printf("%s: %s", KIND[rule >> 4], CODE[rule & 15]);
+}
+
 static void post(struct message m)
 {
     if (waiting == LINE) return; /* a full line drops, and the sender resends */
@@ -101,10 +109,13 @@ static bool happen(uint32_t code, uint32_t node)
     uint32_t r = vulcedar_step(plan, sizeof plan, code, node, rows[at], NODES);
     if (VULCEDAR_NUMBER(r) != 0) return false;
     if (VULCEDAR_SITE(r) != at) fail("another site answered");
+    if (vulcedar_rule(plan, sizeof plan, code, node) != VULCEDAR_RULE(r) << 16) fail("another rule");
     printf("%3u  %-9s of %2u  %-22s waited for ", ++events, CODE[code], node, DAY[node].name);
     print_guard(code, node);
+    printf("; rule %02x, ", VULCEDAR_RULE(r));
+    print_rule(VULCEDAR_RULE(r));
     printf("\n");
-    if (vulcedar_simulate(plan, sizeof plan, code, node, VULCEDAR_HAPPENS, state, sizeof state) != at << 8) fail("the auditor's simulation differs");
+    if (vulcedar_simulate(plan, sizeof plan, code, node, VULCEDAR_HAPPENS, state, sizeof state) != r) fail("the auditor's simulation differs");
     if (VULCEDAR_VALUE(vulcedar_central(plan, sizeof plan, code, node, marks, NODES, notes, NODES)) != 1) fail("the central rule forbids it");
     return true;
 }

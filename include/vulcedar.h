@@ -21,10 +21,15 @@
  * Marks: 0 not started, 1 running, 2 offered, 3 committed, 4 failed, 5 turned down.
  * Retention classes: 0 none, 1 aired (a year), 2 draft (a week), 3 log only (one day).
  *
+ * Rules: one byte says by which rule an event passes, for a log. Its low hexadecimal digit is the event's code, its high
+ * digit a kind: for offer, commit, abort, yes and no the kind of the node itself; for start, pick and turned down the kind
+ * of its parent; 0 for the root's start, which has no parent. The commit of an xor's child, which goes by the pick alone,
+ * is f3. These 37 occur: 01; 12-14; 21-24; 31-34; 41-44; 51-54, 57, 58; 61-64; 71-76; 81-84; f3.
+ *
  * Results are 32 bits:
  *   bits 0-7    the number: 0 passed, else why the call was refused (below)
  *   bits 8-15   the event's site, where an event passed or was refused with 10 or 11; else 0
- *   bits 16-31  a value where the function has one; else 0
+ *   bits 16-31  a value where the function has one, such as the rule of an event that passed; else 0
  *
  * Numbers, with the lowest that fits answered first unless a function says otherwise:
  *    1  plan length odd, 0 or above 320            8  code not 1 to 8, or node or site not in the plan
@@ -53,6 +58,9 @@ extern "C" {
 #define VULCEDAR_NUMBER(r) ((uint32_t)(r) & 0xffu)
 #define VULCEDAR_SITE(r) ((uint32_t)(r) >> 8 & 0xffu)
 #define VULCEDAR_VALUE(r) ((uint32_t)(r) >> 16)
+
+/* The rule in a result of vulcedar_rule, and in one of vulcedar_step or vulcedar_simulate whose event passed. */
+#define VULCEDAR_RULE(r) ((uint32_t)(r) >> 16 & 0xffu)
 
 /* The site of vulcedar_simulate that stands for "the event happens". */
 #define VULCEDAR_HAPPENS 0xffu
@@ -86,8 +94,15 @@ uint32_t vulcedar_check_depths(const uint8_t *plan, size_t plan_len, uint8_t *de
 uint32_t vulcedar_guard(const uint8_t *plan, size_t plan_len, uint32_t code, uint32_t node, uint8_t *buf, size_t buf_len);
 
 /*
+ * The rule of an event, whether or not it can happen now: the value is the rule byte (above). 1 to 6, 8, 9. It reads the
+ * plan and nothing else.
+ */
+uint32_t vulcedar_rule(const uint8_t *plan, size_t plan_len, uint32_t code, uint32_t node);
+
+/*
  * An event wants to happen at its site. row is the row of that site: of the node itself, for a pick that of the node's
- * parent. If it passes, its bit is set in row; store the row before you tell anyone. 1 to 11.
+ * parent. If it passes, its bit is set in row; store the row before you tell anyone. The value is the event's rule if it
+ * passes, as vulcedar_rule gives it, and 0 if it is refused. 1 to 11.
  */
 uint32_t vulcedar_step(const uint8_t *plan, size_t plan_len, uint32_t code, uint32_t node, uint8_t *row, size_t row_len);
 
@@ -108,7 +123,8 @@ uint32_t vulcedar_pass(const uint8_t *plan, size_t plan_len, const uint8_t *answ
 /*
  * A step of a simulation of all sites. state has the rows of all sites one after another, nodes times nodes bytes, zeros
  * at first. site 0xff: the event happens, at its own site; any other site hears of it, refused with 12 unless it
- * happened. 1 to 12.
+ * happened. The value is the rule of an event that passes; it is 0 for a refusal, and for a message, passed or not.
+ * 1 to 12.
  */
 uint32_t vulcedar_simulate(const uint8_t *plan, size_t plan_len, uint32_t code, uint32_t node, uint32_t site, uint8_t *state,
                            size_t state_len);

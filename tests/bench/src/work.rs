@@ -7,8 +7,8 @@ use differential::driver::Step;
 use std::hint::black_box;
 
 /// The measured functions.
-pub const NAMES: [&str; 10] =
-    ["check", "depths", "rewrite", "guard", "step", "hear", "pass", "simulate", "record", "central"];
+pub const NAMES: [&str; 11] =
+    ["check", "depths", "rewrite", "guard", "rule", "step", "hear", "pass", "simulate", "record", "central"];
 
 /// One key typed in a plan: a byte changes, and the plan is checked with its
 /// depths. Every byte of the plan is changed once, to each of two others.
@@ -71,6 +71,7 @@ impl Work {
                 subject.record(black_box(&fixture.plan), &fixture.state, &mut work.out, &mut work.more)
             }),
             "guard" => self.guards(subject),
+            "rule" => self.rules(subject),
             "step" => self.steps(subject),
             "hear" => self.hears(subject),
             "simulate" => self.simulations(subject),
@@ -101,6 +102,12 @@ impl Work {
         let buffer = &mut self.buffer;
         let call =
             |sum, &(code, node, _): &(u32, u32, usize)| mix(sum, subject.guard(plan, code, node, buffer));
+        self.fixture.events.iter().fold(0, call)
+    }
+
+    fn rules(&mut self, subject: &mut impl Implementation) -> u32 {
+        let plan = black_box(&self.fixture.plan);
+        let call = |sum, &(code, node, _): &(u32, u32, usize)| mix(sum, subject.rule(plan, code, node));
         self.fixture.events.iter().fold(0, call)
     }
 

@@ -26,6 +26,10 @@ impl Implementation for Archive {
         vulcedar::guard(plan, code, node, buffer)
     }
 
+    fn rule(&mut self, plan: &[u8], code: u32, node: u32) -> u32 {
+        vulcedar::rule(plan, code, node)
+    }
+
     fn step(&mut self, plan: &[u8], code: u32, node: u32, row: &mut [u8]) -> u32 {
         vulcedar::step(plan, code, node, row)
     }

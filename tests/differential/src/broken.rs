@@ -85,6 +85,22 @@ pub enum Mistake {
     RewriteSparesTheRoot,
     /// A rewrite into too few bytes writes as many as there are.
     RefusedRewriteWrites,
+    /// A passed event hands on no rule.
+    RuleLeftOut,
+    /// A message hands its event's rule on.
+    RuleWithMessages,
+    /// A refused event hands its rule on.
+    RuleWithRefusals,
+    /// The rule of a start is by the node's own kind.
+    StartRuleByOwnKind,
+    /// The rule of the root's start is by the root's kind.
+    RootRuleByItsKind,
+    /// The rule of an offer is by the parent's kind.
+    OfferRuleByParent,
+    /// The commit of an xor's child has a rule as any other commit.
+    PickedCommitHasUsualRule,
+    /// The rule of a waiting and is that of an and.
+    WaitingAndHasRuleOfAnd,
     /// One level more than there may be.
     OneLevelMore,
     /// Parents are looked at before kinds.
@@ -101,7 +117,7 @@ pub enum Mistake {
 
 impl Mistake {
     /// All mistakes; the first is number 1.
-    pub const ALL: [Mistake; 44] = [
+    pub const ALL: [Mistake; 52] = [
         Mistake::CommitUnlessAbortHeard,
         Mistake::PickAtTheChild,
         Mistake::TurnedDownStillRuns,
@@ -140,6 +156,14 @@ impl Mistake {
         Mistake::RewriteTouchesParents,
         Mistake::RewriteSparesTheRoot,
         Mistake::RefusedRewriteWrites,
+        Mistake::RuleLeftOut,
+        Mistake::RuleWithMessages,
+        Mistake::RuleWithRefusals,
+        Mistake::StartRuleByOwnKind,
+        Mistake::RootRuleByItsKind,
+        Mistake::OfferRuleByParent,
+        Mistake::PickedCommitHasUsualRule,
+        Mistake::WaitingAndHasRuleOfAnd,
         Mistake::OneLevelMore,
         Mistake::ParentsBeforeKinds,
         Mistake::DepthsFromZero,
@@ -174,11 +198,14 @@ impl Broken {
         let result = self.honest.step(&self.misread_kinds(plan), code, node, &mut view);
         let applies = matches!(number(result), 0 | 10 | 11);
         let at = result & 0xff00;
+        let rule = self.rule(plan, code, node) & !0xffff;
+        let result = if number(result) == 0 { at | rule } else { result };
         match self.mistake {
-            Mistake::PickAtTheChild if applies && code == PICK => return pick_at_child(node, row),
+            Mistake::PickAtTheChild if applies && code == PICK => return pick_at_child(node, row, rule),
             Mistake::GuardNeverHolds if applies => return 11 | at,
             Mistake::SetsNothing => return result,
-            Mistake::PretendsAfterTheFirst if applies && self.has_passed => return at,
+            Mistake::PretendsAfterTheFirst if applies && self.has_passed => return at | rule,
+            Mistake::RuleWithRefusals if applies && number(result) != 0 => return result | rule,
             Mistake::GuardBeforeBars if number(result) == 10 && !guard_holds(plan, code, node, row) => {
                 return 11 | at;
             }
@@ -188,7 +215,11 @@ impl Broken {
             self.has_passed = true;
             row[node as usize] |= bit(code);
         }
-        if self.mistake == Mistake::SiteLeftOut { result & !0xff00 } else { result }
+        match self.mistake {
+            Mistake::SiteLeftOut => result & !0xff00,
+            Mistake::RuleLeftOut => result & 0xffff,
+            _ => result,
+        }
     }
 
     /// What the mistake makes of a plan's kinds before it decides.
@@ -238,6 +269,7 @@ impl Broken {
         let [code, node, site] = step.map(|number| number as usize);
         let nodes = plan.len() / 2;
         match (self.mistake, number(result)) {
+            (Mistake::RuleWithMessages, 0) => Reference.rule(plan, code as u32, node as u32),
             (Mistake::FalseMessageBelieved, 12) => {
                 state[site * nodes + node] |= bit(code as u32);
                 0
@@ -270,7 +302,7 @@ fn guard_holds(plan: &[u8], code: u32, node: u32, row: &[u8]) -> bool {
 }
 
 /// A pick by the child's own row, as if it were the child's business.
-fn pick_at_child(node: u32, row: &mut [u8]) -> u32 {
+fn pick_at_child(node: u32, row: &mut [u8], rule: u32) -> u32 {
     let own = &mut row[node as usize];
     let at = node << 8;
     if *own & bit(PICK) != 0 {
@@ -279,7 +311,7 @@ fn pick_at_child(node: u32, row: &mut [u8]) -> u32 {
         11 | at
     } else {
         *own |= bit(PICK);
-        at
+        at | rule
     }
 }
 
@@ -348,6 +380,28 @@ impl Implementation for Broken {
                 result
             }
             Mistake::ShortBufferFirst if matches!(number(result), 8 | 9) && before == 0 => 7,
+            _ => result,
+        }
+    }
+
+    fn rule(&mut self, plan: &[u8], code: u32, node: u32) -> u32 {
+        let (code, node) = (self.cut(code), self.cut(node));
+        let result = self.honest.rule(plan, code, node);
+        if number(result) != 0 {
+            return result;
+        }
+        let kind = |node: usize| u32::from(plan[2 * node]);
+        let by_kind = |kind: u32| (kind << 4 | code) << 16;
+        let own = node as usize;
+        let parent = || usize::from(plan[2 * own + 1]);
+        match (self.mistake, code) {
+            (Mistake::StartRuleByOwnKind, START) if own > 0 => by_kind(kind(own)),
+            (Mistake::RootRuleByItsKind, START) if own == 0 => by_kind(kind(own)),
+            (Mistake::OfferRuleByParent, OFFER) => by_kind(kind(parent())),
+            (Mistake::PickedCommitHasUsualRule, COMMIT) => by_kind(kind(own)),
+            (Mistake::WaitingAndHasRuleOfAnd, _) => {
+                self.honest.rule(&with_kind(plan, WAITING_AND, AND), code, node)
+            }
             _ => result,
         }
     }

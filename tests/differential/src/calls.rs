@@ -26,6 +26,7 @@ pub fn damaged_plans<S: Implementation, R: Implementation>(trial: &mut Trial<S, 
         let state = state_bytes(random, nodes);
         trial.check_depths(&plan, &one);
         trial.guard(&plan, code, node, &one);
+        trial.rule(&plan, code, node);
         trial.step(&plan, code, node, &one);
         trial.hear(&plan, code, node, &one);
         trial.pass(&plan, &one, &two);
@@ -70,6 +71,7 @@ pub fn guards<S: Implementation, R: Implementation>(
     trial.check_depths(plan, &random.bytes(plan.len() / 2));
     for _ in 0..60 {
         let (code, node) = apt_event(random, &tree);
+        trial.rule(plan, code, node);
         let long = random.bytes(LONG_BUFFER);
         let exact = value(trial.guard(plan, code, node, &long)) as usize;
         let other = random.below(exact + 5);

@@ -13,6 +13,8 @@ pub trait Implementation {
     fn check_depths(&mut self, plan: &[u8], depths: &mut [u8]) -> u32;
     /// Writes a guard.
     fn guard(&mut self, plan: &[u8], code: u32, node: u32, buffer: &mut [u8]) -> u32;
+    /// The rule of an event.
+    fn rule(&mut self, plan: &[u8], code: u32, node: u32) -> u32;
     /// An event at its site.
     fn step(&mut self, plan: &[u8], code: u32, node: u32, row: &mut [u8]) -> u32;
     /// A message into a site's row.
@@ -47,6 +49,10 @@ impl Implementation for Reference {
 
     fn guard(&mut self, plan: &[u8], code: u32, node: u32, buffer: &mut [u8]) -> u32 {
         exported::guard(plan, code, node, buffer)
+    }
+
+    fn rule(&mut self, plan: &[u8], code: u32, node: u32) -> u32 {
+        exported::rule(plan, code, node)
     }
 
     fn step(&mut self, plan: &[u8], code: u32, node: u32, row: &mut [u8]) -> u32 {

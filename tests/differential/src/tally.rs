@@ -16,6 +16,8 @@ pub enum Function {
     CheckDepths,
     /// `vulcedar_guard`
     Guard,
+    /// `vulcedar_rule`
+    Rule,
     /// `vulcedar_step`
     Step,
     /// `vulcedar_hear`
@@ -34,7 +36,7 @@ pub enum Function {
 }
 
 /// How many functions there are.
-const FUNCTIONS: usize = 11;
+const FUNCTIONS: usize = 12;
 /// How many numbers there are, with 0 for passed.
 const NUMBERS: usize = 16;
 
@@ -45,6 +47,7 @@ impl Function {
         Function::Rewrite,
         Function::CheckDepths,
         Function::Guard,
+        Function::Rule,
         Function::Step,
         Function::Hear,
         Function::Pass,
@@ -61,6 +64,7 @@ impl Function {
             Function::Rewrite => "rewrite",
             Function::CheckDepths => "depths",
             Function::Guard => "guard",
+            Function::Rule => "rule",
             Function::Step => "step",
             Function::Hear => "hear",
             Function::Pass => "pass",
@@ -77,6 +81,7 @@ impl Function {
         match self {
             Function::Check => &[0, 1, 2, 3, 4, 5, 6],
             Function::Guard | Function::Hear | Function::Central => &[0, 1, 2, 3, 4, 5, 6, 7, 8, 9],
+            Function::Rule => &[0, 1, 2, 3, 4, 5, 6, 8, 9],
             Function::Step => &[0, 1, 2, 3, 4, 5, 6, 7, 8, 9, 10, 11],
             Function::Pass => &[0, 1, 2, 3, 4, 5, 6, 7, 13, 14],
             Function::Simulate => &[0, 1, 2, 3, 4, 5, 6, 7, 8, 9, 10, 11, 12],
@@ -107,6 +112,15 @@ pub struct Jobs {
     pub agreeing: u64,
 }
 
+/// A count for each rule byte.
+struct Rules([u64; 256]);
+
+impl Default for Rules {
+    fn default() -> Rules {
+        Rules([0; 256])
+    }
+}
+
 /// The counts of a run.
 #[derive(Default)]
 pub struct Tally {
@@ -115,6 +129,8 @@ pub struct Tally {
     pub allowed: u64,
     /// See `allowed`.
     pub not_allowed: u64,
+    /// How often an event passed by each rule.
+    rules: Rules,
     /// Counts over whole rehearsals.
     pub jobs: Jobs,
     /// Texts given to the program.
@@ -130,6 +146,16 @@ impl Tally {
     /// Counts an answer of the reference.
     pub fn count(&mut self, function: Function, number: u8) {
         self.counts[function as usize][usize::from(number) % NUMBERS] += 1;
+    }
+
+    /// Counts an event that passed by a rule.
+    pub fn count_rule(&mut self, rule: u32) {
+        self.rules.0[rule as usize % 256] += 1;
+    }
+
+    /// By how many different rules events passed.
+    pub fn rules(&self) -> usize {
+        self.rules.0.iter().filter(|&&count| count > 0).count()
     }
 
     /// Counts a comparison; a difference is described.
@@ -204,6 +230,7 @@ impl fmt::Display for Tally {
             "            {} events, {} messages, {} agreeing answer lists",
             jobs.events, jobs.messages, jobs.agreeing
         )?;
+        writeln!(out, "rules of passed events: {} different", self.rules())?;
         writeln!(out, "texts: {}", self.texts)?;
         write!(out, "simulate and step calls: {}", self.steps())
     }

@@ -101,13 +101,34 @@ impl<S: Implementation, R: Implementation> Trial<S, R> {
         ours
     }
 
+    /// The rule of an event.
+    pub fn rule(&mut self, plan: &[u8], code: u32, node: u32) -> u32 {
+        self.plan.load(plan);
+        let theirs = self.subject.rule(self.plan.bytes(), code, node);
+        let ours = self.reference.rule(plan, code, node);
+        let call = Call { function: Function::Rule, plan, numbers: &[code, node], lent: &[] };
+        self.judge(call, ours, theirs, true);
+        ours
+    }
+
+    /// Whether the subject hands on the event's rule where an event passed,
+    /// and nothing otherwise.
+    fn has_its_rule(&mut self, plan: &[u8], code: u32, node: u32, site: u32, theirs: u32) -> bool {
+        if number(theirs) != 0 || site != HAPPENS {
+            return value(theirs) == 0;
+        }
+        self.tally.count_rule(value(theirs));
+        self.subject.rule(plan, code, node) == value(theirs) << 16
+    }
+
     /// An event at its site.
     pub fn step(&mut self, plan: &[u8], code: u32, node: u32, row: &[u8]) -> u32 {
         self.plan.load(plan);
         self.one.load(row);
         let theirs = self.subject.step(self.plan.bytes(), code, node, self.one.subject.bytes_mut());
         let ours = self.reference.step(plan, code, node, &mut self.one.reference);
-        let same = is_bit_set(&mut self.one, ours, code, node as usize);
+        let has_rule = self.has_its_rule(plan, code, node, HAPPENS, theirs);
+        let same = is_bit_set(&mut self.one, ours, code, node as usize) && has_rule;
         let call = Call { function: Function::Step, plan, numbers: &[code, node], lent: &[row] };
         self.judge(call, ours, theirs, same);
         ours
@@ -219,7 +240,8 @@ impl<S: Implementation, R: Implementation> Trial<S, R> {
         let theirs = self.subject.simulate(self.plan.bytes(), code, node, site, state.subject.bytes_mut());
         let ours = self.reference.simulate(plan, code, node, site, &mut state.reference);
         let place = place_in_state(plan, code, node, site);
-        let same = is_bit_set(state, ours, code, place);
+        let has_rule = self.has_its_rule(plan, code, node, site, theirs);
+        let same = is_bit_set(state, ours, code, place) && has_rule;
         let short = &state.before()[..state.length().min(400)];
         let call = Call { function: Function::Simulate, plan, numbers: &[code, node, site], lent: &[short] };
         let fine = self.judge(call, ours, theirs, same);
@@ -232,7 +254,7 @@ impl<S: Implementation, R: Implementation> Trial<S, R> {
         let plan_stays = self.plan.is_still(call.plan);
         self.tally.count(call.function, number(ours));
         self.tally.compare(ours == theirs && same && plan_stays, || {
-            let bytes = if same && plan_stays { "bytes as they should be" } else { "wrong bytes" };
+            let bytes = if same && plan_stays { "bytes as they should be" } else { "wrong bytes or rule" };
             format!("{}: reference {ours:08x}, subject {theirs:08x}, {bytes}", call.describe())
         })
     }

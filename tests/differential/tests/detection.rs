@@ -12,6 +12,7 @@ fn two_copies_of_the_reference_agree() {
     assert_eq!(tally.differences(), 0, "{:#?}", tally.described());
     assert_eq!(tally.missing(), []);
     assert!(tally.steps() >= options.steps);
+    assert_eq!(tally.rules(), 37);
     assert!(tally.jobs.over > 500 && tally.jobs.committed > 100 && tally.jobs.failed > 100);
 }
 
@@ -58,6 +59,9 @@ fn a_mistake_on_both_sides_is_found() {
         Mistake::RewriteTouchesParents,
         Mistake::RewriteSparesTheRoot,
         Mistake::RefusedRewriteWrites,
+        Mistake::RuleLeftOut,
+        Mistake::RuleWithMessages,
+        Mistake::RuleWithRefusals,
     ];
     let options = Options { seed: 15, steps: 1_000_000, texts: 0, enough: 1, only: None };
     for mistake in mistakes {

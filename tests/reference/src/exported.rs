@@ -1,7 +1,7 @@
 //! One function for each function of the C archive, with the same packed
 //! result: bits 0 to 7 the number (0 passed), bits 8 to 15 the site that let
 //! an event pass or refused it by its row, bits 16 to 31 a value where the
-//! function has one.
+//! function has one; for an event that passed this is its rule.
 //!
 //! They are never inlined, so that a caller pays for a call here as well.
 
@@ -9,7 +9,7 @@ use crate::refusal::Refusal;
 use crate::simulate::Outcome;
 use crate::site::Verdict;
 use crate::{central as central_rule, guard as guards, pass as passes, plan, record as records};
-use crate::{rewrite as rewriting, simulate as simulation, site as sites};
+use crate::{rewrite as rewriting, rule as rules, simulate as simulation, site as sites};
 
 /// The number in a packed result.
 pub fn number(result: u32) -> u8 {
@@ -53,7 +53,14 @@ pub fn guard(plan: &[u8], code: u32, node: u32, buffer: &mut [u8]) -> u32 {
     }
 }
 
-/// An event at its site, by the site's row. 1 to 11.
+/// The rule of an event, as the value. 1 to 6, 8, 9.
+#[inline(never)]
+pub fn rule(plan: &[u8], code: u32, node: u32) -> u32 {
+    rules::rule(plan, code, node).map_or_else(refused, with)
+}
+
+/// An event at its site, by the site's row; the value is the rule of one that
+/// passes. 1 to 11.
 #[inline(never)]
 pub fn step(plan: &[u8], code: u32, node: u32, row: &mut [u8]) -> u32 {
     verdict(sites::step(plan, code, node, row))
@@ -72,7 +79,7 @@ pub fn pass(plan: &[u8], answers: &[u8], marks: &mut [u8]) -> u32 {
 }
 
 /// A step of a rehearsal: an event if the site is 255, else a message to
-/// that site. 1 to 12.
+/// that site. The value is the rule of an event that passes. 1 to 12.
 #[inline(never)]
 pub fn simulate(plan: &[u8], code: u32, node: u32, site: u32, state: &mut [u8]) -> u32 {
     match simulation::simulate(plan, code, node, site, state) {
@@ -107,10 +114,14 @@ fn refused(cause: Refusal) -> u32 {
 
 fn verdict(verdict: Verdict) -> u32 {
     match verdict {
-        Verdict::Passed { site } => at(site),
+        Verdict::Passed { site, rule } => at(site) | with(rule),
         Verdict::RefusedAt { cause, site } => refused(cause) | at(site),
         Verdict::Refused(cause) => refused(cause),
     }
+}
+
+fn with(rule: u8) -> u32 {
+    u32::from(rule) << 16
 }
 
 fn at(site: usize) -> u32 {

@@ -27,6 +27,7 @@ pub mod plan;
 pub mod record;
 pub mod refusal;
 pub mod rewrite;
+pub mod rule;
 pub mod simulate;
 pub mod site;
 pub mod text;

@@ -4,6 +4,7 @@ use crate::event::{Code, Event};
 use crate::guard::Guard;
 use crate::plan::Plan;
 use crate::refusal::Refusal;
+use crate::rule;
 
 /// What became of an event.
 #[derive(Clone, Copy, Debug, PartialEq, Eq)]
@@ -12,6 +13,8 @@ pub enum Verdict {
     Passed {
         /// The site.
         site: usize,
+        /// The rule that let it pass.
+        rule: u8,
     },
     /// The site refused it, by its row.
     RefusedAt {
@@ -58,7 +61,7 @@ pub(crate) fn happen(plan: &Plan, event: Event, row: &mut [u8]) -> Verdict {
         return Verdict::RefusedAt { cause: Refusal::Guard, site };
     }
     event.set(row);
-    Verdict::Passed { site }
+    Verdict::Passed { site, rule: rule::of(plan, event) }
 }
 
 /// 1 to 6, then 7 for the row, then 8 and 9.

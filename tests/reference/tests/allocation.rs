@@ -43,6 +43,7 @@ fn exported_functions_do_not_allocate() {
     for code in 0..10 {
         for node in 0..7 {
             sum += exported::guard(&plan, code, node, &mut buffer);
+            sum += exported::rule(&plan, code, node);
             sum += exported::step(&plan, code, node, &mut marks);
             sum += exported::hear(&plan, code, node, &mut marks);
             sum += exported::simulate(&plan, code, node, HAPPENS, &mut state);

@@ -67,6 +67,7 @@ fn plan_refusals_come_first_everywhere() {
                 let mut other = vec![LEFT; length];
                 assert_eq!(rewrite(&plan, &mut lent), expected);
                 assert_eq!(guard(&plan, code, node, &mut lent), expected);
+                assert_eq!(rule(&plan, code, node), expected);
                 assert_eq!(step(&plan, code, node, &mut lent), expected);
                 assert_eq!(hear(&plan, code, node, &mut lent), expected);
                 assert_eq!(simulate(&plan, code, node, HAPPENS, &mut lent), expected);
@@ -120,6 +121,7 @@ fn strange_numbers_are_8_and_nothing_is_cut() {
     let (mut row, mut notes, mut state) = lent();
     for number in STRANGE {
         for (code, node) in [(number, 0), (START, number), (number, number), (0, 1)] {
+            assert_eq!(rule(&plan, code, node), 8);
             assert_eq!(step(&plan, code, node, &mut row), 8);
             assert_eq!(hear(&plan, code, node, &mut row), 8);
             assert_eq!(central(&plan, code, node, &mut row, &mut notes), 8);
@@ -147,6 +149,7 @@ fn events_that_do_not_apply_are_9() {
     for (code, node) in (1..=8).flat_map(|code| (0..4).map(move |node| (code, node))) {
         let nine = |result| number(result) == 9;
         assert_eq!(nine(guard(&plan, code, node, &mut [0; 300])), !applies(code, node));
+        assert_eq!(nine(rule(&plan, code, node)), !applies(code, node));
         assert_eq!(nine(step(&plan, code, node, &mut [0; 4])), !applies(code, node));
         assert_eq!(nine(hear(&plan, code, node, &mut [0; 4])), !applies(code, node));
         assert_eq!(nine(central(&plan, code, node, &mut [0; 4], &mut [0; 4])), !applies(code, node));
@@ -190,7 +193,7 @@ fn a_pick_is_barred_by_the_pick_of_any_sibling() {
     let mut row = [0, 0, 0, offered, 0, picked];
     assert_eq!(step(&plan, PICK, 3, &mut row), 10 | 1 << 8);
     let mut row = [picked, picked, picked, offered, picked, 0];
-    assert_eq!(step(&plan, PICK, 3, &mut row), 1 << 8, "others' picks don't count");
+    assert_eq!(step(&plan, PICK, 3, &mut row), passed(1, 0x57), "others' picks don't count");
     assert_eq!(row[3], offered | picked);
 }
 
@@ -202,7 +205,7 @@ fn step_10_and_11_name_the_site_and_leave_the_row() {
     assert_eq!(step(&plan, PICK, 3, &mut row), 11 | 2 << 8);
     assert_eq!(row, [0; 6]);
     assert_eq!(hear(&plan, START, 2, &mut row), 0);
-    assert_eq!(step(&plan, START, 3, &mut row), 3 << 8);
+    assert_eq!(step(&plan, START, 3, &mut row), passed(3, 0x51));
     assert_eq!(row, [0, 0, 1, 1, 0, 0]);
     assert_eq!(step(&plan, START, 3, &mut row), 10 | 3 << 8);
     assert_eq!(row, [0, 0, 1, 1, 0, 0]);
@@ -214,7 +217,7 @@ fn a_false_message_is_12() {
     assert_eq!(job.message(START, 0, 1), 12);
     assert_eq!(job.message(START, 0, 0), 12);
     assert_eq!(job.state, [0; 36]);
-    assert_eq!(job.event(START, 0), 0);
+    assert_eq!(job.event(START, 0), passed(0, 0x01));
     assert_eq!(job.message(START, 0, 1), 0);
     let before = job.state.clone();
     assert_eq!(job.message(START, 0, 1), 0, "a repeat");

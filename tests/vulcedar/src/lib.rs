@@ -30,7 +30,14 @@ pub fn guard(plan: &[u8], code: u32, node: u32, buffer: &mut [u8]) -> u32 {
     unsafe { raw::vulcedar_guard(plan.as_ptr(), plan.len(), code, node, buffer.as_mut_ptr(), buffer.len()) }
 }
 
-/// An event at its site, by the site's row.
+/// The rule of an event, as the value.
+pub fn rule(plan: &[u8], code: u32, node: u32) -> u32 {
+    // SAFETY: as for `check`.
+    unsafe { raw::vulcedar_rule(plan.as_ptr(), plan.len(), code, node) }
+}
+
+/// An event at its site, by the site's row; the value is the rule of one that
+/// passes.
 pub fn step(plan: &[u8], code: u32, node: u32, row: &mut [u8]) -> u32 {
     // SAFETY: as for `rewrite`.
     unsafe { raw::vulcedar_step(plan.as_ptr(), plan.len(), code, node, row.as_mut_ptr(), row.len()) }
@@ -58,7 +65,7 @@ pub fn pass(plan: &[u8], answers: &[u8], marks: &mut [u8]) -> u32 {
 }
 
 /// A step of a rehearsal: an event if the site is 255, else a message to
-/// that site.
+/// that site. The value is the rule of an event that passes.
 pub fn simulate(plan: &[u8], code: u32, node: u32, site: u32, state: &mut [u8]) -> u32 {
     // SAFETY: as for `rewrite`.
     unsafe {

@@ -21,6 +21,8 @@ unsafe extern "C" {
         buffer_length: usize,
     ) -> u32;
 
+    pub fn vulcedar_rule(plan: *const u8, plan_length: usize, code: u32, node: u32) -> u32;
+
     pub fn vulcedar_step(
         plan: *const u8,
         plan_length: usize,

@@ -84,6 +84,11 @@ pub fn guard_bytes(plan: &[u8], code: u32, node: u32) -> Vec<u8> {
     buffer[..length].to_vec()
 }
 
+/// The packed result of an event that passed at this site by this rule.
+pub fn passed(site: u32, rule: u32) -> u32 {
+    site << 8 | rule << 16
+}
+
 /// The pass's marks, or its refusal.
 pub fn pass_marks(plan: &[u8], answers: &[u8]) -> Result<Vec<u8>, u32> {
     let mut marks = vec![0xee; plan.len() / 2];
