@@ -18,6 +18,11 @@ unfoldable pub writtenNumber : Written → ℕ
 writtenNumber (Done g) = 0
 writtenNumber (Refused n) = n
 
+-- and the guard's length, 0 where none was written
+unfoldable pub writtenLength : Written → ℕ
+writtenLength (Done g) = g .length
+writtenLength (Refused n) = 0
+
 -- a buffer and the writer's answer
 pub record Filled : Type 0 where
   pub buffer : List ℕ

@@ -4,7 +4,7 @@ use mathlib.Core.List.{List}
 use Prim.Native.Nat.{ℕ, _*_, _≤_}
 use native.Mathlib.Omega.{arith}
 use Rattle.event.specs.Event.{eventOf}
-use Rattle.guard.specs.Written.{filled, writeOf}
+use Rattle.guard.specs.Written.{writtenNumber, writtenLength, filled, writeOf}
 use Rattle.guard.specs.declared.WrittenGuard.{WrittenGuard}
 use Rattle.guard.specs.declared.Written.{Written}
 use Rattle.guard.specs.declared.Written.the-variants.{Done, Refused}
@@ -19,14 +19,14 @@ module _ (p : List ℕ) (code node : ℕ) (b b′ : List ℕ) (w : Written) (h :
   done-short g e = let d = write-done p code node b b′ g (h ∙ ap (filled b′) e) in omega (arith, d .long, guard-short p (d .valid .plan) (eventOf code node))
 
   pub done-result : (g : WrittenGuard) → w ≡ Done g → (65536 * g .length ≡ ofWritten (writeOf p code node b .answer)) × (b′ ≡ writeOf p code node b .buffer)
-  unfolding ofWritten
+  unfolding ofWritten writtenNumber writtenLength
   done-result g e =
       let q = h ∙ ap (filled b′) e in
       let z : 65536 * g .length ≡ result 0 0 (g .length) = omega arith in
       (z ∙ sym (ap (λ s. ofWritten (s .answer)) q), sym (ap (λ s. s .buffer) q))
 
   pub refused-result : (n : ℕ) → w ≡ Refused n → (r : ℕ) → r ≡ result n 0 0 → (r ≡ ofWritten (writeOf p code node b .answer)) × (b′ ≡ writeOf p code node b .buffer)
-  unfolding ofWritten
+  unfolding ofWritten writtenNumber writtenLength
   refused-result n e r f =
       let q = h ∙ ap (filled b′) e in
       (f ∙ sym (ap (λ s. ofWritten (s .answer)) q), sym (ap (λ s. s .buffer) q))

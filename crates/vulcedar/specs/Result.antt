@@ -2,9 +2,10 @@
 use Prim.Native.Nat.{ℕ, _+_, _*_}
 use Rattle.guard.specs.Rule.{Named}
 use Rattle.guard.specs.declared.Written.{Written}
-use Rattle.guard.specs.declared.Written.the-variants as written
+use Rattle.guard.specs.Written.{writtenNumber, writtenLength}
 use Rattle.site.specs.Verdict.{verdictNumber, verdictSite, verdictRule}
 use Rattle.site.specs.declared.Verdict.{Verdict}
+use Rattle.central.specs.Rule.{rulingNumber}
 use Rattle.central.specs.declared.Ruling.{Ruling}
 use Rattle.central.specs.declared.Ruling.the-variants as ruling
 
@@ -14,8 +15,7 @@ result n q v = n + 256 * q + 65536 * v
 
 -- K2: the guard's length is the value
 unfoldable pub ofWritten : Written → ℕ
-ofWritten (written.Done g) = result 0 0 (g .length)
-ofWritten (written.Refused n) = result n 0 0
+ofWritten w = result (writtenNumber w) 0 (writtenLength w)
 
 -- K2: the rule is the value
 unfoldable pub ofNamed : Named → ℕ
@@ -25,8 +25,11 @@ ofNamed r = result (r .number) 0 (r .rule)
 unfoldable pub ofVerdict : Verdict → ℕ
 ofVerdict v = result (verdictNumber v) (verdictSite v) (verdictRule v)
 
--- K2: allowed is the value 1, forbidden 0
+-- K2: allowed is the value 1
+unfoldable pub rulingValue : Ruling → ℕ
+rulingValue ruling.Allowed = 1
+rulingValue ruling.Forbidden = 0
+rulingValue (ruling.Refused n) = 0
+
 unfoldable pub ofRuling : Ruling → ℕ
-ofRuling ruling.Allowed = result 0 0 1
-ofRuling ruling.Forbidden = result 0 0 0
-ofRuling (ruling.Refused n) = result n 0 0
+ofRuling r = result (rulingNumber r) 0 (rulingValue r)

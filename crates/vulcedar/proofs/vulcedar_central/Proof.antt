@@ -1,6 +1,7 @@
 -- One law, and the result of each ruling. Assumes nothing.
 use mathlib.Core.Path.{sym, ap, _∙_}
-use Rattle.vulcedar.specs.Result.{ofRuling}
+use Rattle.central.specs.Rule.{rulingNumber}
+use Rattle.vulcedar.specs.Result.{rulingValue, ofRuling}
 use Rattle.vulcedar.proofs.ResultLaws.{ruling-result}
 use borrow.Author.Needs.{needs}
 use Rattle.vulcedar.proofs.vulcedar_central.Statement.{statement}
@@ -28,7 +29,7 @@ same-length-2 : tie.Need-same-length-2
 same-length-2 c = search needs
 
 returns : tie.Need-returns
-unfolding ofRuling
+unfolding ofRuling rulingNumber rulingValue
 returns c = ruling-result _ _ _ _ (c .before .before .before .before .before .before .rule .ensures) _ (sym (ap ofRuling (c .enum-told .given .1)))
 
 same-length-3 : tie.Need-same-length-3
@@ -38,7 +39,7 @@ same-length-4 : tie.Need-same-length-4
 same-length-4 c = search needs
 
 returns-2 : tie.Need-returns-2
-unfolding ofRuling
+unfolding ofRuling rulingNumber rulingValue
 returns-2 c = ruling-result _ _ _ _ (c .before .before .before .before .before .before .rule .ensures) _ (sym (ap ofRuling (c .enum-told2 .given .1)))
 
 same-length-5 : tie.Need-same-length-5
@@ -48,7 +49,7 @@ same-length-6 : tie.Need-same-length-6
 same-length-6 c = search needs
 
 returns-3 : tie.Need-returns-3
-unfolding ofRuling
+unfolding ofRuling rulingNumber rulingValue
 returns-3 c = ruling-result _ _ _ _ (c .before .before .before .before .before .before .before .before .rule .ensures) _ (c .packed .ensures ∙ sym (ap ofRuling (c .before .before .r .given .1)))
 
 pub vulcedar-central-spec : {M : Type 1} → statement M
