@@ -43,9 +43,9 @@ pub fn letters() {
     );
     of(
         b"text with a refused plan and a blank",
-        b"08ff\n--\n0100f \n",
+        b"09ff\n--\n0100f \n",
     );
-    of(b"text with a refused plan", b"08ff\n--\n0100ff\n");
+    of(b"text with a refused plan", b"09ff\n--\n0100ff\n");
     of(b"text with no plan line", b"--\n0100ff\n");
 }
 

@@ -5,18 +5,18 @@ use mathlib.Core.List.{List, [], _∷_}
 use Prim.Native.Nat.{ℕ, zero, suc, pred, _+_, _-_, _<_, _≤_}
 use native.Mathlib.Numerals.{add-one}
 use native.Mathlib.Omega.{arith}
-use borrow.Author.Tests.{eq-eqb, ne-eqb, eqb-true, eqb-false}
-use lib.Dec.{eqb}
+use borrow.Author.Tests.{eq-eqb, ne-eqb, eqb-true, eqb-false, ltb-true, ltb-false}
+use lib.Dec.{eqb, ltb}
 use lib.ListN.{length, length-set, set, drop, getD}
 use lib.Seq.{sets}
 use Rattle.lists.specs.Seq.{keep, upFrom, lastOr, headOr}
 use Rattle.lists.specs.Member.{In, here, there}
 use Rattle.lists.proofs.Logic.{cases, decided, either, clash}
-use Rattle.lists.proofs.Members.{up-in}
+use Rattle.lists.proofs.Members.{up-in, none-in}
 use Rattle.lists.proofs.Keep.{keep-yes, keep-no, keep-out, keep-same, keep-keep, keep-short}
 use Rattle.plan.specs.Plan.{kindOf, size, kindByte, kind, parent, childrenBelow, children, others, above, aboveByte, inXor}
 use Rattle.plan.specs.Check.{Accepted}
-use Rattle.plan.proofs.KindLaws.{above-byte}
+use Rattle.plan.proofs.KindLaws.{kind-task, above-byte}
 use Rattle.plan.proofs.AcceptedLaws.{child-between}
 use Rattle.event.specs.Event.{Code, start, offer, commit, abort, answered-yes, answered-no, pick, down, codeOf, eventOf}
 use Rattle.guard.specs.Guard.{one, anyOf, isFirst, beforeIn, finishing, aborting, guardBy, guard}
@@ -99,6 +99,14 @@ unfolding kin isKin children childrenBelow
 kin-children p u = keep-same _ _ (upFrom 1 (pred (size p))) (λ c i.
     let b = up-in 1 (pred (size p)) i in
     rw (ne-eqb c 0 (λ e. omega arith)) (and-true (eqb (parent p c) u)))
+
+-- a task has none
+pub kin-task : (p : List ℕ) → Accepted p → (u skip : ℕ) → kindByte p u ≡ 1 → kin p u skip ≡ []
+unfolding keep
+kin-task p ok u skip e = kin-keep p u skip ∙ cases (decided (ltb u (size p)))
+    (λ h. ap (keep (λ c. not (eqb c skip))) (ok .tasks u (ltb-true u (size p) h) (kind-task p u e)))
+    (λ h. let l = ltb-false u (size p) h in
+    ap (keep (λ c. not (eqb c skip))) (none-in (children p u) (λ c i. let k = child-between p ok u i in omega arith)))
 
 pub kin-few : (p : List ℕ) → Accepted p → (u skip : ℕ) → length (kin p u skip) ≤ 32
 kin-few p ok u skip = omega (arith, ap length (kin-keep p u skip), keep-short (λ c. not (eqb c skip)) (children p u), few-children p ok u)

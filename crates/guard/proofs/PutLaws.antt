@@ -79,9 +79,12 @@ pub any-behind : (k : ℕ) (cs : List ℕ) (at n : ℕ) → (k ≡ 0 → ⊥) �
 unfolding anyPart anyClause
 any-behind k cs at n e l = let h = rw (ne-eqb k 0 e) at l in omega arith
 
+pub put-none : (b : List ℕ) (at : ℕ) → Put [] b at b at
+put-none b at = record { place = omega arith; held = refl }
+
 pub any-none : (k : ℕ) (cs b : List ℕ) (at : ℕ) → k ≡ 0 → Put (anyPart k cs) b at b at
 unfolding anyPart
-any-none k cs b at e = rw e (record { place = omega arith; held = refl })
+any-none k cs b at e = rw e (put-none b at)
 
 -- a clause of n codes, two bytes each
 pub clause-length : (k n c : ℕ) → n ≤ 3 → length (clause (codesOf k n) c) ≡ 1 + 2 * n

@@ -13,7 +13,7 @@ ghost use Rattle.lists.specs.Put.{Put};
 ghost use Rattle.guard.specs.Row.{kin};
 
 // The children of u but `skip`, at the front of cs, and how many they are. The root is nobody's child, so 0 leaves none out.
-fn kin(plan: &[u8], u: u8, skip: u8, cs: &mut [u8]) -> usize
+fn gather(plan: &[u8], u: u8, skip: u8, cs: &mut [u8]) -> usize
     requires { ⌜ size (now plan) ≤ 160 ⌝ }
     requires { ⌜ length (kin (now plan) u skip) ≤ length (now cs) ⌝ }
     ensures { λ r. ⌜ Put (kin (now (plan .entry)) u skip) (now (cs .entry)) 0 (now (cs .exit)) r ⌝ }
@@ -29,6 +29,18 @@ fn kin(plan: &[u8], u: u8, skip: u8, cs: &mut [u8]) -> usize
         c += 1;
     }
     w
+}
+
+// The same, without a look at every node where u is a task.
+fn kin(plan: &[u8], u: u8, skip: u8, cs: &mut [u8]) -> usize
+    requires { ⌜ Accepted (now plan) ⌝ }
+    requires { ⌜ length (kin (now plan) u skip) ≤ length (now cs) ⌝ }
+    ensures { λ r. ⌜ Put (kin (now (plan .entry)) u skip) (now (cs .entry)) 0 (now (cs .exit)) r ⌝ }
+{
+    if plan::kind(plan, u) == 1 {
+        return 0;
+    }
+    gather(plan, u, skip, cs)
 }
 
 // The one before v in cs, v itself where it is the first, and the last of cs where it is not there.

@@ -73,7 +73,7 @@ add-d : tie.Need-add-d Inv-loop μ-loop
 add-d c = omega (arith, deep-fits (deepening (c .before)))
 
 slice-write-depths-2 : tie.Need-slice-write-depths-2 Inv-loop μ-loop
-slice-write-depths-2 c = omega (arith, deepening (c .before) .within, deepening (c .before) .so-far .long)
+slice-write-depths-2 c = let t = deepening (c .before) in omega (arith, deep-room t, t .within, t .so-far .long)
 
 add-v : tie.Need-add-v Inv-loop μ-loop
 add-v c = search needs

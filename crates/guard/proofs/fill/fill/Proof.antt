@@ -53,7 +53,7 @@ slice-aggregate-kin : tie.Need-slice-aggregate-kin
 slice-aggregate-kin c = search needs
 
 kin-requires : tie.Need-kin-requires
-kin-requires c κs = (c .before .before .before .before .before .before .pre .0 .0 .few, kin-few _ (c .before .before .before .before .before .before .pre .0 .0) _ _)
+kin-requires c κs = (c .before .before .before .before .before .before .pre .0 .0, kin-few _ (c .before .before .before .before .before .before .pre .0 .0) _ _)
 
 array-share-prefix-cs : tie.Need-array-share-prefix-cs
 array-share-prefix-cs c = front-in (c .before .kin .ensures) (few (c .before))
