@@ -51,6 +51,10 @@ lastChance = 0x06 ∷ 0xff ∷ tasks 3
 branch : List ℕ
 branch = 0x07 ∷ 0xff ∷ tasks 2
 
+-- an and with two tasks
+both : List ℕ
+both = 0x03 ∷ 0xff ∷ tasks 2
+
 pub table : List Case
 table =
     writes planP 7 3 (0x01 ∷ 0x01 ∷ 0x02 ∷ 0x03 ∷ [])
@@ -59,6 +63,7 @@ table =
     ∷ writes lastChance 1 3 (0x01 ∷ 0x01 ∷ 0x04 ∷ 0x02 ∷ [])
     ∷ writes branch 1 2 (0x01 ∷ 0x01 ∷ 0x06 ∷ 0x00 ∷ [])
     ∷ writes branch 5 0 (0x01 ∷ 0x01 ∷ 0x01 ∷ 0x00 ∷ [])
+    ∷ writes both 4 0 (0x03 ∷ 0x02 ∷ 0x03 ∷ 0x01 ∷ 0x04 ∷ 0x01 ∷ 0x02 ∷ 0x03 ∷ 0x02 ∷ 0x04 ∷ 0x02 ∷ 0x02 ∷ 0x04 ∷ 0x01 ∷ 0x04 ∷ 0x02 ∷ [])
     ∷ refuses planP 3 2 19 7
     ∷ refuses planP 1 0 0 7
     ∷ refuses planP 9 0 0 8
@@ -68,7 +73,7 @@ table =
     ∷ []
 
 pub all-right : map (λ k. writeOf (k .plan) (k .code) (k .node) (k .buffer)) table ≡ map (λ k. filled (k .left) (k .answer)) table
-unfolding table writes refuses planP tasks xorOf lastChance branch writeOf fitted encode encClauses encEvents codeNumber guard guardBy startBy finishBy
+unfolding table writes refuses planP tasks xorOf lastChance branch both writeOf fitted encode encClauses encEvents codeNumber guard guardBy startBy finishBy
     abortBy finishing aborting isFirst headOr beforeIn lastOr codeOf isCode appliesBy applies known invalid kindNumber isKind kindOf size kindByte kind parent
     childrenBelow children childCount others above inXor depthWithin depth keep upFrom allBelow lengthOk kindOk parentOk underBlock fits countOk depthOk atAll checkNumber
 all-right = refl

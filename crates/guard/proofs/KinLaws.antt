@@ -1,10 +1,8 @@
 -- Laws of the nodes that a guard speaks of: the first, the last, the one before, and how they are gathered. Assumes nothing.
 use mathlib.Core.Path.{_≡_, refl, sym, ap, _∙_}
-use mathlib.Core.Bool.{Bool, true, false, _&&_, _||_, cond, not, and-true, or-true}
-use mathlib.Core.List.{List, [], _∷_, _++_}
-use mathlib.Core.Logic.{⊎-elim}
+use mathlib.Core.Bool.{Bool, true, false, _&&_, _||_, not, and-true, or-true}
+use mathlib.Core.List.{List, [], _∷_}
 use Prim.Native.Nat.{ℕ, zero, suc, pred, _+_, _-_, _<_, _≤_}
-use native.Mathlib.Nat.{eq-or-lt-of-le}
 use native.Mathlib.Numerals.{add-one}
 use native.Mathlib.Omega.{arith}
 use borrow.Author.Tests.{eq-eqb, ne-eqb, eqb-true, eqb-false}
@@ -12,34 +10,21 @@ use lib.Dec.{eqb}
 use lib.ListN.{length, length-set, set, drop, getD}
 use lib.Seq.{sets}
 use Rattle.lists.specs.Seq.{keep, upFrom, lastOr, headOr}
+use Rattle.lists.specs.Member.{In, here, there}
 use Rattle.lists.proofs.Logic.{cases, decided, either, clash}
 use Rattle.lists.proofs.Members.{up-in}
 use Rattle.lists.proofs.Keep.{keep-yes, keep-no, keep-out, keep-same, keep-keep, keep-short}
 use Rattle.plan.specs.Plan.{kindOf, size, kindByte, kind, parent, childrenBelow, children, others, above, aboveByte, inXor}
 use Rattle.plan.specs.Check.{Accepted}
 use Rattle.plan.proofs.KindLaws.{above-byte}
+use Rattle.plan.proofs.AcceptedLaws.{child-between}
 use Rattle.event.specs.Event.{Code, start, offer, commit, abort, answered-yes, answered-no, pick, down, codeOf, eventOf}
-use Rattle.event.proofs.CodeLaws.{code-down}
 use Rattle.guard.specs.Guard.{one, anyOf, isFirst, beforeIn, finishing, aborting, guardBy, guard}
-use Rattle.guard.specs.Bytes.{encode}
 use Rattle.lists.specs.Put.{Put}
-use Rattle.guard.specs.Row.{isKin, kin, rowBy}
+use Rattle.guard.specs.Row.{isKin, kin, near, rowBy}
 use Rattle.lists.proofs.PutLaws.{Left, left-all, left-none, drop-turn}
 use Rattle.guard.proofs.PutLaws.{left-same, drop-out}
 use Rattle.guard.proofs.Short.{few-children}
-
-pub last-at : (d : ℕ) (cs : List ℕ) (n : ℕ) → length cs ≡ suc n → lastOr d cs ≡ getD cs n 0
-unfolding lastOr
-last-at d [] n e = absurd (omega arith)
-last-at d (c ∷ []) zero e = refl
-last-at d (c ∷ []) (suc n) e = absurd (omega arith)
-last-at d (c ∷ a ∷ cs) zero e = absurd (omega arith)
-last-at d (c ∷ a ∷ cs) (suc n) e = last-at c (a ∷ cs) n (omega arith)
-
-pub last-none : (d : ℕ) (cs : List ℕ) → length cs ≡ 0 → lastOr d cs ≡ d
-unfolding lastOr
-last-none d [] e = refl
-last-none d (c ∷ cs) e = absurd (omega arith)
 
 -- a turn of the search for the one before v
 module _ (d : ℕ) (cs : List ℕ) (v i : ℕ) where
@@ -65,6 +50,12 @@ pub first-before : (cs : List ℕ) (v : ℕ) → isFirst cs v ≡ eqb (beforeIn 
 unfolding isFirst headOr beforeIn
 first-before [] v = refl
 first-before (c ∷ cs) v = cases (decided (eqb c v)) (λ e. rw e (sym (eq-eqb v v refl))) (λ e. rw e (sym (before-other c cs v e)))
+
+-- where v is not in the list, the search ends at the last
+pub before-last : (d : ℕ) (cs : List ℕ) (v : ℕ) → ((c : ℕ) → In c cs → c ≡ v → ⊥) → beforeIn d cs v ≡ lastOr d cs
+unfolding beforeIn lastOr
+before-last d [] v h = refl
+before-last d (c ∷ cs) v h = rw (ne-eqb c v (h c (here refl))) (before-last c cs v (λ x i. h x (there i)))
 
 -- a turn of the loop that gathers those kept
 module _ (f : ℕ → Bool) {whole b₀ : List ℕ} {w₀ : ℕ} {b : List ℕ} {w : ℕ} (c n : ℕ) (h : Left (keep f (upFrom c (n - c))) whole b₀ w₀ b w) where
@@ -169,6 +160,26 @@ module _ (code v : ℕ) (low : 1 ≤ code) (high : code ≤ 8) where
   none-out h = cases (decided (eqb code 1)) (λ e. rw (eqb-true code 1 e))
       (λ e. let n = eqb-false code 1 e in middle (λ c. 0 ≡ leftOut c v) refl refl refl refl refl refl code (omega arith) (omega arith))
 
+-- a node is not among its own children
+module _ (p : List ℕ) (ok : Accepted p) where
+  own-last : (v : ℕ) → beforeIn v (kin p v 0) v ≡ lastOr v (kin p v 0)
+  own-last v = rw (kin-children p v) (before-last v (children p v) v (λ c i e. let b = child-between p ok v i in omega arith))
+
+  near-before : (code : Code) (v : ℕ) → let cs = kin p (whose p code v) (leftOut code v) in beforeIn v cs v ≡ near code v cs
+  unfolding whose leftOut near
+  near-before start v = refl
+  near-before offer v = own-last v
+  near-before commit v = own-last v
+  near-before abort v = own-last v
+  near-before answered-yes v = refl
+  near-before answered-no v = refl
+  near-before pick v = refl
+  near-before down v = refl
+
+  pub near-kin : (code v : ℕ) {w skip d : ℕ} {cs : List ℕ} → w ≡ whose p (codeOf code) v → skip ≡ leftOut (codeOf code) v → cs ≡ kin p w skip → d ≡ beforeIn v cs v
+      → d ≡ near (codeOf code) v cs
+  near-kin code v ew es ec h = h ∙ rw (ec, ew, es) (near-before (codeOf code) v)
+
 -- the guard is its row
 guard-row : (p : List ℕ) (code : Code) (v : ℕ) → guardBy p code v ≡ rowBy code (kind p v) (above p v) (parent p v) v (kin p (whose p code v) (leftOut code v))
 unfolding guardBy rowBy finishing aborting inXor whose leftOut
@@ -181,8 +192,8 @@ guard-row p answered-no v = refl
 guard-row p pick v = refl
 guard-row p down v = rw (kin-others p v)
 
-pub guard-bytes : (p : List ℕ) (code v : ℕ) {k a u w skip : ℕ} {cs : List ℕ} → k ≡ kindByte p v → a ≡ aboveByte p v → u ≡ parent p v
+pub guard-is : (p : List ℕ) (code v : ℕ) {k a u w skip : ℕ} {cs : List ℕ} → k ≡ kindByte p v → a ≡ aboveByte p v → u ≡ parent p v
     → w ≡ whose p (codeOf code) v → skip ≡ leftOut (codeOf code) v → cs ≡ kin p w skip
-    → encode (guard p (eventOf code v)) ≡ encode (rowBy (codeOf code) (kindOf k) (kindOf a) u v cs)
+    → guard p (eventOf code v) ≡ rowBy (codeOf code) (kindOf k) (kindOf a) u v cs
 unfolding guard kind
-guard-bytes p code v ek ea eu ew es ec = rw (ec, ew, es, ek, ea, eu, ← above-byte p v) (ap encode (guard-row p (codeOf code) v))
+guard-is p code v ek ea eu ew es ec = rw (ec, ew, es, ek, ea, eu, ← above-byte p v) (guard-row p (codeOf code) v)

@@ -2,13 +2,12 @@
 use mathlib.Core.Path.{_≡_, refl, sym, ap, _∙_}
 use mathlib.Core.List.{List, [], _∷_, _++_, map, append-assoc, append-nil}
 use Prim.Native.Nat.{ℕ, _+_, _*_, _≤_}
-use native.Mathlib.Nat.{add-zero}
 use native.Mathlib.Omega.{arith}
 use lib.ListN.{length, length-append, length-map}
 use Rattle.event.specs.Event.{Code, codeNumber, at}
-use Rattle.guard.specs.Guard.{Guard, one, each, anyOf}
+use Rattle.guard.specs.Guard.{Guard, each, anyOf}
 use Rattle.guard.specs.Bytes.{encEvents, encClauses, encode}
-use Rattle.guard.specs.Put.{pairs, anyPairs, clause, eachClause, anyClause, oneBytes, eachBytes, eachAnyBytes}
+use Rattle.guard.specs.Put.{pairs, anyPairs, clause, eachClause, anyClause}
 
 clauses-append : (g h : Guard) → encClauses (g ++ h) ≡ encClauses g ++ encClauses h
 unfolding encClauses
@@ -34,19 +33,15 @@ clauses-any : (k : Code) (cs : List ℕ) → encClauses (anyOf k cs) ≡ anyClau
 unfolding encClauses anyClause
 clauses-any k cs = rw (length-map cs (at k), append-nil (encEvents (map (at k) cs)), events-any k cs)
 
-pub encode-one : (k : Code) (v : ℕ) → encode (one k v) ≡ oneBytes (codeNumber k) v
-unfolding encode encClauses encEvents
-encode-one k v = refl
+pub encode-each : (ks : List Code) (cs : List ℕ) → encode (each ks cs) ≡ length cs ∷ eachClause (map codeNumber ks) cs
+unfolding encode
+encode-each ks cs = rw (length-map cs (λ c. map (λ k. at k c) ks), clauses-each ks cs)
 
-pub encode-each : (ks : List Code) (cs : List ℕ) → encode (each ks cs) ≡ eachBytes (map codeNumber ks) cs 0
-unfolding encode eachBytes
-encode-each ks cs = rw (length-map cs (λ c. map (λ k. at k c) ks), clauses-each ks cs, add-zero)
-
-pub encode-each-any : (ks : List Code) (cs : List ℕ) (k : Code) (others : List ℕ)
-    → encode (each ks cs ++ anyOf k others) ≡ eachAnyBytes (map codeNumber ks) cs (codeNumber k) others
-unfolding encode eachBytes eachAnyBytes
-encode-each-any ks cs k others =
-    rw (clauses-append (each ks cs) (anyOf k others), clauses-each ks cs, clauses-any k others, length-append (each ks cs) (anyOf k others), length-map cs (λ c. map (λ k. at k c) ks))
+pub encode-each-any : (ks : List Code) (xs : List ℕ) (k : Code) (ys : List ℕ)
+    → encode (each ks xs ++ anyOf k ys) ≡ (length xs + 1) ∷ (eachClause (map codeNumber ks) xs ++ anyClause (codeNumber k) ys)
+unfolding encode
+encode-each-any ks xs k ys =
+    rw (clauses-append (each ks xs) (anyOf k ys), clauses-each ks xs, clauses-any k ys, length-append (each ks xs) (anyOf k ys), length-map xs (λ c. map (λ k. at k c) ks))
 
 -- lengths
 pairs-length : (ks : List ℕ) (c : ℕ) → length (pairs ks c) ≡ 2 * length ks
@@ -54,25 +49,16 @@ unfolding pairs
 pairs-length [] c = refl
 pairs-length (k ∷ ks) c = omega (arith, pairs-length ks c)
 
-pub clause-length : (ks : List ℕ) (c : ℕ) → length (clause ks c) ≡ 1 + 2 * length ks
-unfolding clause
-clause-length ks c = omega (arith, pairs-length ks c)
-
 any-pairs-length : (k : ℕ) (cs : List ℕ) → length (anyPairs k cs) ≡ 2 * length cs
 unfolding anyPairs
 any-pairs-length k [] = refl
 any-pairs-length k (c ∷ cs) = omega (arith, any-pairs-length k cs)
 
-each-clause-short : (ks cs : List ℕ) → length ks ≤ 3 → length (eachClause ks cs) ≤ 7 * length cs
-unfolding eachClause
-each-clause-short ks [] h = omega arith
-each-clause-short ks (c ∷ cs) h = omega (arith, each-clause-short ks cs h, length-append (clause ks c) (eachClause ks cs), clause-length ks c)
+pub any-length : (k : ℕ) (cs : List ℕ) → length (anyClause k cs) ≡ 1 + 2 * length cs
+unfolding anyClause
+any-length k cs = omega (arith, any-pairs-length k cs)
 
-pub each-short : (ks cs : List ℕ) (more : ℕ) → length ks ≤ 3 → length (eachBytes ks cs more) ≤ 1 + 7 * length cs
-unfolding eachBytes
-each-short ks cs more h = omega (arith, each-clause-short ks cs h)
-
-pub each-any-short : (ks cs : List ℕ) (k : ℕ) (others : List ℕ) → length ks ≤ 3 → length (eachAnyBytes ks cs k others) ≤ 2 + 7 * length cs + 2 * length others
-unfolding eachAnyBytes anyClause
-each-any-short ks cs k others h =
-    omega (arith, each-short ks cs 1 h, any-pairs-length k others, length-append (eachBytes ks cs 1) (length others ∷ anyPairs k others))
+pub each-short : (ks cs : List ℕ) → length ks ≤ 3 → length (eachClause ks cs) ≤ 7 * length cs
+unfolding eachClause clause
+each-short ks [] h = omega arith
+each-short ks (c ∷ cs) h = omega (arith, each-short ks cs h, length-append (pairs ks c) (eachClause ks cs), pairs-length ks c)

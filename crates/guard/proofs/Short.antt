@@ -2,7 +2,7 @@
 use mathlib.Core.Path.{_≡_, ap}
 use mathlib.Core.Bool.{Bool, true, false, cond, not}
 use mathlib.Core.List.{List, [], _∷_, _++_, map}
-use Prim.Native.Nat.{ℕ, _+_, _*_, _≤_, _<_}
+use Prim.Native.Nat.{ℕ, _+_, _≤_}
 use native.Mathlib.Omega.{arith}
 use borrow.Author.Tests.{ltb-true, ltb-false}
 use lib.Dec.{eqb, ltb}
@@ -16,8 +16,8 @@ use Rattle.plan.proofs.AcceptedLaws.{child-between}
 use Rattle.event.specs.Event.{Code, start, offer, commit, abort, answered-yes, answered-no, pick, down, Event, codeNumber}
 use Rattle.guard.specs.Guard.{Guard, one, each, anyOf, isFirst, beforeIn, startBy, finishBy, abortBy, finishing, aborting, guardBy, guard}
 use Rattle.guard.specs.Bytes.{encode}
-use Rattle.guard.specs.Put.{eachBytes, eachAnyBytes}
-use Rattle.guard.proofs.Shapes.{encode-each, encode-each-any, each-short, each-any-short}
+use Rattle.guard.specs.Put.{eachClause, anyClause}
+use Rattle.guard.proofs.Shapes.{encode-each, encode-each-any, each-short, any-length}
 
 -- a node that is not in the plan has no children
 pub few-children : (p : List ℕ) → Accepted p → (u : ℕ) → length (children p u) ≤ 32
@@ -29,12 +29,21 @@ record Short (g : Guard) : Type 0 where
   fits : length (encode g) ≤ 290
 
 each-fits : (ks : List Code) (cs : List ℕ) → length (map codeNumber ks) ≤ 3 → length cs ≤ 32 → Short (each ks cs)
-each-fits ks cs h few = record { fits = omega (arith, ap length (encode-each ks cs), each-short (map codeNumber ks) cs 0 h) }
+each-fits ks cs h few = record { fits = omega (arith, ap length (encode-each ks cs), each-short (map codeNumber ks) cs h) }
 
-each-any-fits : (ks : List Code) (cs : List ℕ) (k : Code) (others : List ℕ) → length (map codeNumber ks) ≤ 3 → length cs ≤ 32 → length others ≤ 32
-    → Short (each ks cs ++ anyOf k others)
-each-any-fits ks cs k others h few few′ =
-    record { fits = omega (arith, ap length (encode-each-any ks cs k others), each-any-short (map codeNumber ks) cs (codeNumber k) others h) }
+each-any-fits : (ks : List Code) (xs : List ℕ) (k : Code) (ys : List ℕ) → length (map codeNumber ks) ≤ 3 → length xs ≤ 32 → length ys ≤ 32
+    → Short (each ks xs ++ anyOf k ys)
+each-any-fits ks xs k ys h few few′ =
+    record {
+      fits =
+          omega (
+            arith,
+            ap length (encode-each-any ks xs k ys),
+            each-short (map codeNumber ks) xs h,
+            any-length (codeNumber k) ys,
+            length-append (eachClause (map codeNumber ks) xs) (anyClause (codeNumber k) ys),
+          );
+    }
 
 one-fits : (k : Code) (v : ℕ) → Short (one k v)
 one-fits k v = each-fits (k ∷ []) (v ∷ []) (omega arith) (omega arith)

@@ -1,12 +1,9 @@
--- What the writers of clauses leave in a buffer; only private functions' contracts cite it. Definitions only.
+-- The bytes of clauses as the writers write them; only private functions' contracts cite it. Definitions only.
+use mathlib.Core.Bool.{cond}
 use mathlib.Core.List.{List, [], _∷_, _++_}
-use Prim.Native.Nat.{ℕ, _+_, _≤_}
-use lib.ListN.{length}
-
--- few nodes, and room for a longest guard: 1 + 32 * 7 + 1 + 32 * 2 bytes
-pub record Room (cs b : List ℕ) : Type 0 where
-  pub few : length cs ≤ 32
-  pub room : 290 ≤ length b
+use Prim.Native.Nat.{ℕ, _+_}
+use lib.Dec.{eqb}
+use lib.ListN.{length, take}
 
 -- the events ks of c, and k of each of cs
 unfoldable pub pairs : List ℕ → ℕ → List ℕ
@@ -28,12 +25,19 @@ eachClause ks (c ∷ cs) = clause ks c ++ eachClause ks cs
 unfoldable pub anyClause : ℕ → List ℕ → List ℕ
 anyClause k cs = length cs ∷ anyPairs k cs
 
--- guards: [k of v]; [ks] for each of cs, with the count of the clauses that follow besides; the same with [k of any of as] behind
-abbrev pub oneBytes : ℕ → ℕ → List ℕ
-oneBytes k v = 1 ∷ 1 ∷ k ∷ v ∷ []
+-- the first n of [k, abort, turned down]
+abbrev pub codesOf : ℕ → ℕ → List ℕ
+codesOf k n = take n (k ∷ 4 ∷ 8 ∷ [])
 
-unfoldable pub eachBytes : List ℕ → List ℕ → ℕ → List ℕ
-eachBytes ks cs more = (length cs + more) ∷ eachClause ks cs
+-- the number of clauses, `more` of them behind these, and these: none for the code 0, [k of v] where n is 0, else one for each of cs
+unfoldable pub firstBytes : ℕ → ℕ → ℕ → ℕ → List ℕ → List ℕ
+firstBytes k v n more cs =
+    cond (eqb k 0) (more ∷ [])
+    (cond (eqb n 0) ((1 + more) ∷ clause (codesOf k 1) v) ((length cs + more) ∷ eachClause (codesOf k n) cs))
 
-unfoldable pub eachAnyBytes : List ℕ → List ℕ → ℕ → List ℕ → List ℕ
-eachAnyBytes ks cs k others = eachBytes ks cs 1 ++ anyClause k others
+-- [k of any of cs], which the code 0 leaves out, and how many clauses that is
+unfoldable pub anyPart : ℕ → List ℕ → List ℕ
+anyPart k cs = cond (eqb k 0) [] (anyClause k cs)
+
+unfoldable pub moreOf : ℕ → ℕ
+moreOf k = cond (eqb k 0) 0 1

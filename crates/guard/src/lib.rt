@@ -2,6 +2,7 @@
 // specs/Bytes.antt, what the writer answers and leaves in specs/Written.antt. The public function has no `requires`: bad input is refused.
 mod fill;
 mod put;
+mod table;
 
 ghost use mathlib.Core.Path.{_≡_};
 ghost use Rattle.guard.specs.Written.{filled, writeOf};

@@ -1,71 +1,81 @@
-// The writers of clauses, and of guards by their shapes. A guard is 290 bytes or less.
-ghost use mathlib.Core.Path.{_≡_};
-ghost use Prim.Native.Nat.{_+_, _≤_};
+// The writers of clauses, and of a row's guard.
+use crate::table::Row;
+ghost use Prim.Native.Nat.{_+_, _*_, _≤_};
 ghost use lib.ListN.{length};
 ghost use Rattle.lists.specs.Put.{Put};
-ghost use Rattle.guard.specs.Put.{Room, clause, oneBytes, eachBytes, eachAnyBytes};
+ghost use Rattle.guard.specs.Put.{clause, codesOf, firstBytes, anyPart};
+ghost use Rattle.guard.specs.Row.{rowBytes};
 
-// The clause [codes of c].
-fn put_clause(codes: &[u8], c: u8, buf: &mut [u8], at: usize) -> usize
-    requires { ⌜ length (now codes) ≤ 3 ⌝ }
-    requires { ⌜ at + 7 ≤ length (now buf) ⌝ }
-    ensures { λ r. ⌜ Put (clause (now (codes .entry)) c) (now (buf .entry)) at (now (buf .exit)) r ⌝ }
+// The clause [the first n of first, abort, turned down] of c.
+fn put_clause(first: u8, n: u8, c: u8, buf: &mut [u8], at: usize) -> usize
+    requires { ⌜ (1 ≤ n) × (n ≤ 3) × (at + (1 + 2 * n) ≤ length (now buf)) ⌝ }
+    ensures { λ r. ⌜ Put (clause (codesOf first n) c) (now (buf .entry)) at (now (buf .exit)) r ⌝ }
 {
-    buf[at] = codes.len() as u8;
-    let mut w = at + 1;
-    let mut i = 0;
-    while i < codes.len() {
-        buf[w] = codes[i];
-        buf[w + 1] = c;
-        w += 2;
-        i += 1;
+    buf[at] = n;
+    buf[at + 1] = first;
+    buf[at + 2] = c;
+    if n == 1 {
+        return at + 3;
     }
-    w
+    buf[at + 3] = 4;
+    buf[at + 4] = c;
+    if n == 2 {
+        return at + 5;
+    }
+    buf[at + 5] = 8;
+    buf[at + 6] = c;
+    at + 7
 }
 
-// [codes] for each of cs, and the number of these and `more` clauses.
-pub(crate) fn each(codes: &[u8], cs: &[u8], more: u8, buf: &mut [u8]) -> usize
-    requires { ⌜ (length (now codes) ≤ 3) × (more ≤ 1) ⌝ }
-    requires { ⌜ Room (now cs) (now buf) ⌝ }
-    ensures { λ r. ⌜ Put (eachBytes (now (codes .entry)) (now (cs .entry)) more) (now (buf .entry)) 0 (now (buf .exit)) r ⌝ }
+// The number of clauses, `more` of them behind these: none where the code is 0, [code of node] where n is 0, else one for each of cs.
+fn put_first(code: u8, node: u8, n: u8, more: u8, cs: &[u8], buf: &mut [u8]) -> usize
+    requires { ⌜ (n ≤ 3) × (more ≤ 1) × (length (now cs) ≤ 32) × (length (firstBytes code node n more (now cs)) ≤ length (now buf)) ⌝ }
+    ensures { λ r. ⌜ Put (firstBytes code node n more (now (cs .entry))) (now (buf .entry)) 0 (now (buf .exit)) r ⌝ }
 {
+    if code == 0 {
+        buf[0] = more;
+        return 1;
+    }
+    if n == 0 {
+        buf[0] = 1 + more;
+        return put_clause(code, 1, node, buf, 1);
+    }
     buf[0] = cs.len() as u8 + more;
     let mut w = 1;
     let mut i = 0;
     while i < cs.len() {
-        w = put_clause(codes, cs[i], buf, w);
+        w = put_clause(code, n, cs[i], buf, w);
         i += 1;
     }
     w
 }
 
-// [codes] for each of cs, then [code of any of others].
-pub(crate) fn each_any(codes: &[u8], cs: &[u8], code: u8, others: &[u8], buf: &mut [u8]) -> usize
-    requires { ⌜ (length (now codes) ≤ 3) × (length (now cs) ≤ 32) ⌝ }
-    requires { ⌜ Room (now others) (now buf) ⌝ }
-    ensures { λ r. ⌜ Put (eachAnyBytes (now (codes .entry)) (now (cs .entry)) code (now (others .entry))) (now (buf .entry)) 0 (now (buf .exit)) r ⌝ }
+// The clause [code of any of cs], and nothing for the code 0.
+fn put_any(code: u8, cs: &[u8], buf: &mut [u8], at: usize) -> usize
+    requires { ⌜ (length (now cs) ≤ 32) × (at + length (anyPart code (now cs)) ≤ length (now buf)) ⌝ }
+    ensures { λ r. ⌜ Put (anyPart code (now (cs .entry))) (now (buf .entry)) at (now (buf .exit)) r ⌝ }
 {
-    let mut w = each(codes, cs, 1, buf);
-    buf[w] = others.len() as u8;
-    w += 1;
+    if code == 0 {
+        return at;
+    }
+    buf[at] = cs.len() as u8;
+    let mut w = at + 1;
     let mut i = 0;
-    while i < others.len() {
+    while i < cs.len() {
         buf[w] = code;
-        buf[w + 1] = others[i];
+        buf[w + 1] = cs[i];
         w += 2;
         i += 1;
     }
     w
 }
 
-// [code of v]
-pub(crate) fn one(code: u8, v: u8, buf: &mut [u8]) -> usize
-    requires { ⌜ 290 ≤ length (now buf) ⌝ }
-    ensures { λ r. ⌜ Put (oneBytes code v) (now (buf .entry)) 0 (now (buf .exit)) r ⌝ }
+// The guard of a row, at the front of buf.
+pub(crate) fn put_row(row: Row, cs: &[u8], buf: &mut [u8]) -> usize
+    requires { ⌜ (row .2 ≤ 3) × (length (now cs) ≤ 32) × (length (rowBytes row (now cs)) ≤ length (now buf)) ⌝ }
+    ensures { λ r. ⌜ Put (rowBytes row (now (cs .entry))) (now (buf .entry)) 0 (now (buf .exit)) r ⌝ }
 {
-    buf[0] = 1;
-    buf[1] = 1;
-    buf[2] = code;
-    buf[3] = v;
-    4
+    let more = if row.3 == 0 { 0 } else { 1 };
+    let w = put_first(row.0, row.1, row.2, more, cs, buf);
+    put_any(row.3, cs, buf, w)
 }

@@ -14,7 +14,7 @@ use Rattle.plan.specs.Plan.{size}
 use Rattle.plan.specs.Check.{checkNumber}
 use Rattle.plan.proofs.Main.{check-exact}
 use Rattle.pass.specs.Pass.{numberOf, rootMark, passOf, pass, passed, passInto}
-use Rattle.pass.specs.Values.{outcomeOf, Ready, Settles}
+use Rattle.pass.specs.Values.{outcomeOf, Ready, Linked, Settles}
 use Rattle.pass.specs.declared.Outcome.{Outcome}
 
 -- the code's numbers: k of the plan's check, n its node count
@@ -49,6 +49,19 @@ blank n = take n (replicate 160 0)
 abbrev front : ℕ → List ℕ → List ℕ
 front n y = take n (y ++ drop n (replicate 160 0))
 
+module _ (n : ℕ) (y : List ℕ) (fills : length y ≡ n) where
+  held-is : front n y ≡ y
+  held-is = take-at y (drop n (replicate 160 0)) n fills
+
+  pub held-room : n ≤ length (y ++ drop {A = ℕ} n (replicate 160 0))
+  held-room = omega (arith, length-append y (drop n (replicate 160 0)), fills)
+
+  pub held-length : n ≡ length (front n y)
+  held-length = sym (ap length held-is ∙ fills)
+
+pub held-links : {p f s : List ℕ} {n : ℕ} → n ≡ size p → Linked p f s → Linked p (front n f) (front n s)
+held-links {f = f} {s = s} {n = n} e h = rw (held-is n f (h .firsts ∙ sym e), held-is n s (h .nexts ∙ sym e)) h
+
 module _ {p a m : List ℕ} (r : Ready p a m 0) (n : ℕ) (e : n ≡ size p) where
   pub blank-length : n ≡ length (blank n)
   blank-length = e ∙ sym (fresh-length 160 n (size p) e (r .accepted .few))
@@ -67,14 +80,11 @@ module _ {p a m : List ℕ} {n : ℕ} {y : List ℕ} {o : Outcome} (root : Root 
   fills : length y ≡ n
   fills = root .long ∙ sym (blank-length (root .ready) n (root .size-is))
 
-  front-is : front n y ≡ y
-  front-is = take-at y (drop n (replicate 160 0)) n fills
-
   pub front-room : n ≤ length (y ++ drop {A = ℕ} n (replicate 160 0))
-  front-room = omega (arith, length-append y (drop n (replicate 160 0)), fills)
+  front-room = held-room n y fills
 
   pub front-length : n ≡ length (front n y)
-  front-length = sym (ap length front-is ∙ fills)
+  front-length = held-length n y fills
 
   pub front-fits : length (front n y) ≤ length m
   front-fits = omega (arith, front-length, root .size-is, root .ready .marks)
@@ -102,4 +112,4 @@ module _ {p a m : List ℕ} {n : ℕ} {y : List ℕ} {o : Outcome} (root : Root 
         over = drop-of-length-le m {i = length y} (omega (arith, fills, root .size-is, root .ready .marks))
 
         same : s ≡ y
-        same = f ∙ rw (front-is, take-length y, over) (append-nil y)
+        same = f ∙ rw (held-is n y fills, take-length y, over) (append-nil y)

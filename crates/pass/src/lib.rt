@@ -2,9 +2,11 @@
 // specs/Pass.antt, a retention class specs/Record.antt. No public function has a `requires`; a refused pass leaves the marks.
 ghost use mathlib.Core.Path.{_≡_};
 ghost use Prim.Native.Nat.{_<_};
-ghost use Rattle.plan.specs.Plan.{kindOf};
+ghost use lib.ListN.{length, replicate};
+ghost use Rattle.plan.specs.Plan.{kindOf, size};
+ghost use Rattle.plan.specs.Check.{Accepted};
 ghost use Rattle.pass.specs.Pass.{goes, skip, note, childMark, badAnswer, badPick, closes, endOf, numberOf, rootMark, passed, passInto};
-ghost use Rattle.pass.specs.Values.{outcomeOf, tallyOf, Ready, Settles};
+ghost use Rattle.pass.specs.Values.{outcomeOf, tallyOf, taskEnd, Ready, linkAt, Linked, Settles};
 ghost use Rattle.pass.specs.Record.{commonTable, frameOk, tableNumber, class};
 
 // How a node ends; a fault has its number.
@@ -142,9 +144,52 @@ fn ended(kind: u8, answer: u8, t: Tally) -> Outcome
     }
 }
 
+// Leaves in `first` each node's first child, in `next` its next sibling; 0 where there is none, as in all of both before.
+fn link_all(plan: &[u8], first: &mut [u8], next: &mut [u8])
+    requires { ⌜ Accepted (now plan) × (now first ≡ replicate (size (now plan)) 0) × (now next ≡ replicate (size (now plan)) 0) ⌝ }
+    ensures { λ _. ⌜ Linked (now (plan .entry)) (now (first .exit)) (now (next .exit)) ⌝ }
+{
+    let mut v = plan.len() / 2;
+    while 1 < v {
+        v -= 1;
+        let u = plan::wide(plan[2 * v + 1]);
+        next[v] = first[u];
+        first[u] = v as u8;
+    }
+}
+
+// The node that a link names, or n.
+fn link(links: &[u8], i: usize, n: usize) -> usize
+    requires { ⌜ i < length (now links) ⌝ }
+    ensures { λ r. ⌜ r ≡ linkAt (now (links .entry)) i n ⌝ }
+{
+    let c = plan::wide(links[i]);
+    if c == 0 { n } else { c }
+}
+
+// The end of a task.
+fn task_end(answer: u8) -> Outcome
+    ensures { λ r. ⌜ outcomeOf r ≡ taskEnd answer ⌝ }
+{
+    if answer == 1 {
+        return Outcome::Works;
+    }
+    if answer == 2 {
+        return Outcome::Breaks;
+    }
+    Outcome::Fault(13)
+}
+
 // Settles a node: leaves the marks of the nodes below it, and answers how it ended.
-fn settle(plan: &[u8], answers: &[u8], marks: &mut [u8], node: usize) -> Outcome
-    requires { ⌜ Ready (now plan) (now answers) (now marks) node ⌝ }
+fn settle(
+    plan: &[u8],
+    answers: &[u8],
+    first: &[u8],
+    next: &[u8],
+    marks: &mut [u8],
+    node: usize,
+) -> Outcome
+    requires { ⌜ Ready (now plan) (now answers) (now marks) node × Linked (now plan) (now first) (now next) ⌝ }
     ensures { λ r. ⌜ Settles (now (plan .entry)) (now (answers .entry)) (now (marks .entry)) node (now (marks .exit)) r ⌝ }
 {
     let kind = plan[2 * node];
@@ -161,19 +206,39 @@ fn settle(plan: &[u8], answers: &[u8], marks: &mut [u8], node: usize) -> Outcome
         chosen: false,
         wrong: 0,
     };
-    for c in node + 1..n {
-        if plan::wide(plan[2 * c + 1]) != node {
-            continue;
-        }
+    let mut c = link(first, node, n);
+    while c < n {
         if !reaches(kind, answer, t) {
             t = skipped(t);
+            c = link(next, c, n);
             continue;
         }
-        let o = settle(plan, answers, marks, c);
+        // most nodes are tasks, and a call costs more than all else here
+        if plan[2 * c] == 1 {
+            let o = task_end(answers[c]);
+            marks[c] = child_mark(kind, answer, t, o);
+            t = noted(answer, t, o);
+            c = link(next, c, n);
+            continue;
+        }
+        let o = settle(plan, answers, first, next, marks, c);
         marks[c] = child_mark(kind, answer, t, o);
         t = noted(answer, t, o);
+        c = link(next, c, n);
     }
     ended(kind, answer, t)
+}
+
+// Settles the root.
+fn settle_root(plan: &[u8], answers: &[u8], marks: &mut [u8]) -> Outcome
+    requires { ⌜ Ready (now plan) (now answers) (now marks) 0 ⌝ }
+    ensures { λ r. ⌜ Settles (now (plan .entry)) (now (answers .entry)) (now (marks .entry)) 0 (now (marks .exit)) r ⌝ }
+{
+    let n = plan::node_count(plan);
+    let mut first = [0u8; 160];
+    let mut next = [0u8; 160];
+    link_all(plan, &mut first[..n], &mut next[..n]);
+    settle(plan, answers, &first[..n], &next[..n], marks, 0)
 }
 
 fn number_of(o: Outcome) -> u8
@@ -203,7 +268,7 @@ fn settle_all(plan: &[u8], answers: &[u8], marks: &mut [u8]) -> u8
 {
     let n = plan::node_count(plan);
     let mut buf = [0u8; 160];
-    let o = settle(plan, answers, &mut buf[..n], 0);
+    let o = settle_root(plan, answers, &mut buf[..n]);
     let number = number_of(o);
     if number != 0 {
         return number;

@@ -1,5 +1,5 @@
 -- The loop that counts children: after the nodes below v, each byte of `out` is its node's children so far. Assumes nothing.
-use mathlib.Core.Path.{_≡_, sym, _∙_, ap}
+use mathlib.Core.Path.{_≡_, refl, sym, _∙_, ap}
 use mathlib.Core.Bool.{Bool, true, false, cond}
 use mathlib.Core.List.{List, [], _∷_}
 use Prim.Native.Nat.{ℕ, _+_, _≤_, _<_}
@@ -9,11 +9,11 @@ use lib.Dec.{eqb}
 use lib.ListN.{length, getD, set, replicate, length-set, length-append, length-replicate, getD-replicate}
 use lib.Seq.{getD-set-same, getD-set-other}
 use borrow.Author.Tests.{eqb-true, eqb-false}
-use Rattle.lists.specs.Seq.{keep, upFrom, table}
+use Rattle.lists.specs.Seq.{keep, upFrom, allBelow, table}
 use Rattle.lists.proofs.Logic.{cases, decided}
 use Rattle.lists.proofs.Table.{table-by, table-at}
 use Rattle.plan.specs.Plan.{size, kindOf, kindByte, kind, parent, childrenBelow, children, childCount}
-use Rattle.plan.specs.Check.{fits, countOk, Ordered}
+use Rattle.plan.specs.Check.{underBlock, fits, countOk, Ordered}
 use Rattle.plan.proofs.PlanLaws.{children-suc, children-short, Turn, turn-below}
 
 pub record Counted (p out : List ℕ) (v : ℕ) : Type 0 where
@@ -30,6 +30,10 @@ count-none p h = record {
   within = omega (arith, h .some);
   each = λ u l. getD-replicate (size p) u 0 0 l;
 }
+
+pub count-none-told : (p : List ℕ) → true ≡ allBelow (underBlock p) 1
+unfolding allBelow underBlock
+count-none-told p = refl
 
 pub count-room : {p out : List ℕ} {v u : ℕ} → Turn (Counted p out v) p v u → u < length out
 count-room t = let b = turn-below t in omega (arith, t .so-far .long, t .within)

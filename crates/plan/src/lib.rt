@@ -85,18 +85,18 @@ fn kind_ok(plan: &[u8], v: usize) -> bool
     1 <= k && k <= 7
 }
 
+// Here and below a loop runs on behind a failed test: that is faster where none fails.
 fn kinds_ok(plan: &[u8]) -> bool
     ensures { λ r. ⌜ r ≡ atAll kindOk (now (plan .entry)) ⌝ }
 {
     let n = node_count(plan);
+    let mut ok = true;
     let mut v = 0;
     while v < n {
-        if !kind_ok(plan, v) {
-            return false;
-        }
+        ok = ok & kind_ok(plan, v);
         v += 1;
     }
-    true
+    ok
 }
 
 fn parent_ok(plan: &[u8], v: usize) -> bool
@@ -114,14 +114,13 @@ fn parents_ok(plan: &[u8]) -> bool
     ensures { λ r. ⌜ r ≡ atAll parentOk (now (plan .entry)) ⌝ }
 {
     let n = node_count(plan);
+    let mut ok = true;
     let mut v = 0;
     while v < n {
-        if !parent_ok(plan, v) {
-            return false;
-        }
+        ok = ok & parent_ok(plan, v);
         v += 1;
     }
-    true
+    ok
 }
 
 fn under_block(plan: &[u8], v: usize) -> bool
@@ -135,33 +134,35 @@ fn under_block(plan: &[u8], v: usize) -> bool
     kind_at(plan, u) != 1
 }
 
-fn blocks_ok(plan: &[u8]) -> bool
-    requires { ⌜ Ordered (now plan) ⌝ }
-    ensures { λ r. ⌜ r ≡ atAll underBlock (now (plan .entry)) ⌝ }
-{
-    let n = node_count(plan);
-    let mut v = 0;
-    while v < n {
-        if !under_block(plan, v) {
-            return false;
-        }
-        v += 1;
-    }
-    true
+// Whether no parent is a task, and whether no depth is above 32.
+struct Told {
+    blocks: bool,
+    shallow: bool,
 }
 
-// Leaves each node's number of children in `out`, which is one zero a node.
-fn child_counts(plan: &[u8], out: &mut [u8])
-    requires { ⌜ Ordered (now plan) × (now out ≡ replicate (size (now plan)) 0) ⌝ }
-    ensures { λ _. ⌜ now (out .exit) ≡ table (childCount (now (plan .entry))) (size (now (plan .entry))) ⌝ }
+// Leaves each node's number of children in `counts`, which is one zero a node, and its depth in `depths`, one byte a node. One loop for all
+// of it: it waits for `counts` at every turn, and the rest costs nothing.
+fn survey(plan: &[u8], counts: &mut [u8], depths: &mut [u8]) -> Told
+    requires { ⌜ Ordered (now plan) × (now counts ≡ replicate (size (now plan)) 0) × (length (now depths) ≡ size (now plan)) ⌝ }
+    ensures { λ r. ⌜ (r .blocks ≡ atAll underBlock (now (plan .entry))) × (r .shallow ≡ atAll depthOk (now (plan .entry))) ⌝ }
+    ensures { λ _. ⌜ now (counts .exit) ≡ table (childCount (now (plan .entry))) (size (now (plan .entry))) ⌝ }
+    ensures { λ _. ⌜ now (depths .exit) ≡ table (depth (now (plan .entry))) (size (now (plan .entry))) ⌝ }
 {
     let n = node_count(plan);
+    let mut blocks = true;
+    let mut shallow = true;
+    depths[0] = 1;
     let mut v = 1;
     while v < n {
+        blocks = blocks & under_block(plan, v);
         let u = parent_at(plan, v);
-        out[u] = out[u] + 1;
+        counts[u] = counts[u] + 1;
+        let d = depths[u] + 1;
+        shallow = shallow & (d <= 32);
+        depths[v] = d;
         v += 1;
     }
+    Told { blocks, shallow }
 }
 
 fn count_ok(k: u8, n: u8) -> bool
@@ -179,64 +180,13 @@ fn counts_match(plan: &[u8], counts: &[u8]) -> bool
     ensures { λ r. ⌜ r ≡ atAll countOk (now (plan .entry)) ⌝ }
 {
     let n = node_count(plan);
+    let mut ok = true;
     let mut v = 0;
     while v < n {
-        if !count_ok(kind_at(plan, v), counts[v]) {
-            return false;
-        }
+        ok = ok & count_ok(kind_at(plan, v), counts[v]);
         v += 1;
     }
-    true
-}
-
-fn counts_ok(plan: &[u8]) -> bool
-    requires { ⌜ Ordered (now plan) ⌝ }
-    ensures { λ r. ⌜ r ≡ atAll countOk (now (plan .entry)) ⌝ }
-{
-    let n = node_count(plan);
-    let mut counts = [0u8; 160];
-    child_counts(plan, &mut counts[..n]);
-    counts_match(plan, &counts[..n])
-}
-
-// Leaves each node's depth in `out`, which is one byte a node.
-fn depths(plan: &[u8], out: &mut [u8])
-    requires { ⌜ Ordered (now plan) × (length (now out) ≡ size (now plan)) ⌝ }
-    ensures { λ _. ⌜ now (out .exit) ≡ table (depth (now (plan .entry))) (size (now (plan .entry))) ⌝ }
-{
-    let n = node_count(plan);
-    out[0] = 1;
-    let mut v = 1;
-    while v < n {
-        let u = parent_at(plan, v);
-        out[v] = out[u] + 1;
-        v += 1;
-    }
-}
-
-fn depths_within(plan: &[u8], depths: &[u8]) -> bool
-    requires { ⌜ now depths ≡ table (depth (now plan)) (size (now plan)) ⌝ }
-    ensures { λ r. ⌜ r ≡ atAll depthOk (now (plan .entry)) ⌝ }
-{
-    let n = node_count(plan);
-    let mut v = 0;
-    while v < n {
-        if depths[v] > 32 {
-            return false;
-        }
-        v += 1;
-    }
-    true
-}
-
-fn depths_ok(plan: &[u8]) -> bool
-    requires { ⌜ Ordered (now plan) ⌝ }
-    ensures { λ r. ⌜ r ≡ atAll depthOk (now (plan .entry)) ⌝ }
-{
-    let n = node_count(plan);
-    let mut buf = [0u8; 160];
-    depths(plan, &mut buf[..n]);
-    depths_within(plan, &buf[..n])
+    ok
 }
 
 // The number of the first test that the plan fails, and 0 where it passes all.
@@ -252,13 +202,17 @@ pub fn check(plan: &[u8]) -> u8
     if !parents_ok(plan) {
         return 3;
     }
-    if !blocks_ok(plan) {
+    let n = node_count(plan);
+    let mut counts = [0u8; 160];
+    let mut depths = [0u8; 160];
+    let told = survey(plan, &mut counts[..n], &mut depths[..n]);
+    if !told.blocks {
         return 4;
     }
-    if !counts_ok(plan) {
+    if !counts_match(plan, &counts[..n]) {
         return 5;
     }
-    if !depths_ok(plan) {
+    if !told.shallow {
         return 6;
     }
     0

@@ -14,7 +14,7 @@ use std::env;
 use std::process::ExitCode;
 use work::{NAMES, Work};
 
-const USAGE: &str = "usage: bench [--self] [--rounds N]";
+const USAGE: &str = "usage: bench [--self] [--rounds N] [--only FUNCTION]";
 /// The sizes of the measured plans.
 const SIZES: [usize; 3] = [10, 40, 160];
 
@@ -28,40 +28,58 @@ fn main() -> ExitCode {
     }
 }
 
-/// Whether to measure two copies of the reference, and how many rounds.
-fn read_arguments(mut words: impl Iterator<Item = String>) -> Result<(bool, usize), String> {
-    let mut own_copy = false;
-    let mut rounds = 201;
+/// What to measure.
+struct Options {
+    /// Two copies of the reference, without the archive.
+    own_copy: bool,
+    /// How often each side is measured.
+    rounds: usize,
+    /// Only this function; "job" is the whole job.
+    only: Option<String>,
+}
+
+impl Options {
+    fn wants(&self, name: &str) -> bool {
+        self.only.as_deref().is_none_or(|only| only == name)
+    }
+}
+
+fn read_arguments(mut words: impl Iterator<Item = String>) -> Result<Options, String> {
+    let mut options = Options { own_copy: false, rounds: 201, only: None };
     while let Some(word) = words.next() {
         match word.as_str() {
-            "--self" => own_copy = true,
-            "--rounds" => rounds = words.next().and_then(|word| word.parse().ok()).ok_or(USAGE)?,
+            "--self" => options.own_copy = true,
+            "--rounds" => {
+                let rounds: usize = words.next().and_then(|word| word.parse().ok()).ok_or(USAGE)?;
+                options.rounds = rounds.max(1);
+            }
+            "--only" => options.only = Some(words.next().ok_or(USAGE)?),
             _ => return Err(USAGE.to_string()),
         }
     }
-    Ok((own_copy, rounds.max(1)))
+    Ok(options)
 }
 
-fn start((own_copy, rounds): (bool, usize)) -> Result<(), String> {
-    if own_copy {
-        return compare("copy", &mut Reference, rounds);
+fn start(options: Options) -> Result<(), String> {
+    if options.own_copy {
+        return compare("copy", &mut Reference, &options);
     }
-    start_archive(rounds)
+    start_archive(&options)
 }
 
 #[cfg(feature = "archive")]
-fn start_archive(rounds: usize) -> Result<(), String> {
+fn start_archive(options: &Options) -> Result<(), String> {
     let program = differential::program::Program { path: "rehearse".into() };
-    compare("archive", &mut differential::archive::Archive { program }, rounds)
+    compare("archive", &mut differential::archive::Archive { program }, options)
 }
 
 #[cfg(not(feature = "archive"))]
-fn start_archive(_: usize) -> Result<(), String> {
+fn start_archive(_: &Options) -> Result<(), String> {
     Err(format!("built without the archive: build with --features archive, or use --self\n{USAGE}"))
 }
 
 /// Measures everything and prints the table.
-fn compare(name: &str, subject: &mut impl Implementation, rounds: usize) -> Result<(), String> {
+fn compare(name: &str, subject: &mut impl Implementation, options: &Options) -> Result<(), String> {
     println!(
         "{:<10}{:>6}{:>14}{:>14}{:>8}",
         "function",
@@ -70,13 +88,16 @@ fn compare(name: &str, subject: &mut impl Implementation, rounds: usize) -> Resu
         "reference ns",
         "ratio"
     );
-    for function in NAMES {
+    for function in NAMES.into_iter().filter(|function| options.wants(function)) {
         for nodes in SIZES {
-            let medians = compare_function(function, nodes, subject, rounds)?;
+            let medians = compare_function(function, nodes, subject, options.rounds)?;
             print_line(function, nodes, &medians);
         }
     }
-    compare_job(name, subject, rounds.div_ceil(10))
+    if options.wants("job") {
+        compare_job(name, subject, options.rounds.div_ceil(10))?;
+    }
+    Ok(())
 }
 
 fn compare_function(

@@ -10,16 +10,16 @@ node-count-requires c κs = search needs
 array-borrow-prefix-buf : tie.Need-array-borrow-prefix-buf
 array-borrow-prefix-buf c = search needs
 
-slice-aggregate-settle : tie.Need-slice-aggregate-settle
-slice-aggregate-settle c = blank-length (c .before .before .before .before .before .pre) _ (c .before .node-count .ensures)
+slice-aggregate-settle-root : tie.Need-slice-aggregate-settle-root
+slice-aggregate-settle-root c = blank-length (c .before .before .before .before .before .pre) _ (c .before .node-count .ensures)
 
-settle-requires : tie.Need-settle-requires
-settle-requires c κs = blank-ready (c .before .before .before .before .before .pre) _ (c .before .node-count .ensures)
+settle-root-requires : tie.Need-settle-root-requires
+settle-root-requires c κs = blank-ready (c .before .before .before .before .before .pre) _ (c .before .node-count .ensures)
 
-root : (c : tie.After-settle) →
+root : (c : tie.After-settle-root) →
     Root (c .before .before .before .before .before .before .args .plan .now) (c .before .before .before .before .before .before .args .answers .now)
-    (c .before .before .before .before .before .before .args .marks .now) (c .before .before .node-count .result) (c .settle .last .1 .1 .0) (c .settle .result)
-root c = record { ready = c .before .before .before .before .before .before .pre; size-is = c .before .before .node-count .ensures; settled = c .settle .ensures; long = c .settle .kept .1 .1 .0 }
+    (c .before .before .before .before .before .before .args .marks .now) (c .before .before .node-count .result) (c .settle-root .last .1 .1 .0) (c .settle-root .result)
+root c = record { ready = c .before .before .before .before .before .before .pre; size-is = c .before .before .node-count .ensures; settled = c .settle-root .ensures; long = c .settle-root .kept .1 .1 .0 }
 
 number-of-requires : tie.Need-number-of-requires
 number-of-requires c κs = search needs
@@ -56,8 +56,8 @@ settle-all-spec =
     (tie.spec
     node-count-requires
     array-borrow-prefix-buf
-    slice-aggregate-settle
-    settle-requires
+    slice-aggregate-settle-root
+    settle-root-requires
     number-of-requires
     returns
     array-share-prefix-buf

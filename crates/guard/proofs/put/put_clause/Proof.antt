@@ -1,80 +1,100 @@
--- The loop's invariant: what is left of the codes gives, from w on, what all of them give from where it began. Assumes nothing.
-use mathlib.Core.Path.{_≡_, _∙_}
-use Prim.Native.Nat.{_-_, _+_, _*_, _≤_}
+-- Up to seven stores, two behind those before them. Assumes nothing.
 use native.Mathlib.Omega.{arith}
-use lib.ListN.{length, length-set, drop}
-use Rattle.guard.specs.Put.{pairs}
-use Rattle.lists.proofs.PutLaws.{Left, left-all}
-use Rattle.guard.proofs.PutLaws.{pairs-turn, clause-out}
+use lib.ListN.{length-set}
+use Rattle.guard.proofs.PutLaws.{clause-one, clause-two, clause-three}
 use borrow.Author.Needs.{needs}
 use Rattle.guard.proofs.put.put_clause.Statement.{statement}
 use Rattle.guard.proofs.put.put_clause.Tie as tie
 
-abbrev Inv-loop : tie.InvT-loop
-Inv-loop codes c buf₀ at w₀ i₀ buf w i = (i ≤ length codes) × (w ≡ w₀ + 2 * i) × Left (pairs (drop i codes) c) (pairs codes c) buf₀ w₀ buf w
-
-abbrev μ-loop : tie.MeasureT-loop
-μ-loop codes c buf₀ at w₀ i₀ buf w i = length codes - i
-
-cast-buf : tie.Need-cast-buf Inv-loop μ-loop
-cast-buf c = search needs
-
-slice-write-buf : tie.Need-slice-write-buf Inv-loop μ-loop
+slice-write-buf : tie.Need-slice-write-buf
 slice-write-buf c = search needs
 
-add-w : tie.Need-add-w Inv-loop μ-loop
-add-w c = search needs
-
-loop-holds : tie.Need-loop-holds Inv-loop μ-loop
-loop-holds c = (search needs, search needs, left-all _ _ _)
-
-shared-slice-read-buf : tie.Need-shared-slice-read-buf Inv-loop μ-loop
-shared-slice-read-buf c = search needs
-
-slice-write-buf-2 : tie.Need-slice-write-buf-2 Inv-loop μ-loop
-slice-write-buf-2 c = omega (arith, simp length-set at (c .before .before .loop .inv .2 .long))
-
-add-buf : tie.Need-add-buf Inv-loop μ-loop
+add-buf : tie.Need-add-buf
 add-buf c = search needs
 
-slice-write-buf-3 : tie.Need-slice-write-buf-3 Inv-loop μ-loop
-slice-write-buf-3 c = rw length-set (omega (arith, simp length-set at (c .before .before .loop .inv .2 .long)))
+slice-write-buf-2 : tie.Need-slice-write-buf-2
+slice-write-buf-2 c = simp length-set (omega arith)
 
-add-w-2 : tie.Need-add-w-2 Inv-loop μ-loop
-add-w-2 c = search needs
+add-buf-2 : tie.Need-add-buf-2
+add-buf-2 c = search needs
 
-add-i : tie.Need-add-i Inv-loop μ-loop
-add-i c = search needs
+slice-write-buf-3 : tie.Need-slice-write-buf-3
+slice-write-buf-3 c = simp length-set (omega arith)
 
-loop-less : tie.Need-loop-less Inv-loop μ-loop
-loop-less c = search needs
+add-result : tie.Need-add-result
+add-result c = search needs
 
-loop-again : tie.Need-loop-again Inv-loop μ-loop
-loop-again c = (search needs, search needs, pairs-turn _ _ _ (c .before .loop-test .taken) (c .before .before .loop .inv .2))
+same-length : tie.Need-same-length
+same-length c = search needs
 
-same-length : tie.Need-same-length Inv-loop μ-loop
-same-length c = c .before .loop .inv .2 .long ∙ simp length-set
+returns : tie.Need-returns
+returns c = clause-one _ _ _ _ (c .if1 .taken)
 
-returns : tie.Need-returns Inv-loop μ-loop
-returns c = clause-out _ _ _ _ (c .loop-test .left) (c .before .loop .inv .2)
+add-buf-3 : tie.Need-add-buf-3
+add-buf-3 c = search needs
+
+slice-write-buf-4 : tie.Need-slice-write-buf-4
+slice-write-buf-4 c = simp length-set (omega arith)
+
+add-buf-4 : tie.Need-add-buf-4
+add-buf-4 c = search needs
+
+slice-write-buf-5 : tie.Need-slice-write-buf-5
+slice-write-buf-5 c = simp length-set (omega arith)
+
+add-result-2 : tie.Need-add-result-2
+add-result-2 c = search needs
+
+same-length-2 : tie.Need-same-length-2
+same-length-2 c = search needs
+
+returns-2 : tie.Need-returns-2
+returns-2 c = clause-two _ _ _ _ (c .if2 .taken)
+
+add-buf-5 : tie.Need-add-buf-5
+add-buf-5 c = search needs
+
+slice-write-buf-6 : tie.Need-slice-write-buf-6
+slice-write-buf-6 c = simp length-set (omega arith)
+
+add-buf-6 : tie.Need-add-buf-6
+add-buf-6 c = search needs
+
+slice-write-buf-7 : tie.Need-slice-write-buf-7
+slice-write-buf-7 c = simp length-set (omega arith)
+
+add-result-3 : tie.Need-add-result-3
+add-result-3 c = search needs
+
+same-length-3 : tie.Need-same-length-3
+same-length-3 c = search needs
+
+returns-3 : tie.Need-returns-3
+returns-3 c = clause-three _ _ _ _ (omega arith)
 
 pub put-clause-spec : {M : Type 1} → statement M
 put-clause-spec =
     tie.close
     (tie.spec
-    Inv-loop
-    μ-loop
-    cast-buf
     slice-write-buf
-    add-w
-    loop-holds
-    shared-slice-read-buf
-    slice-write-buf-2
     add-buf
+    slice-write-buf-2
+    add-buf-2
     slice-write-buf-3
-    add-w-2
-    add-i
-    loop-less
-    loop-again
+    add-result
     same-length
-    returns)
+    returns
+    add-buf-3
+    slice-write-buf-4
+    add-buf-4
+    slice-write-buf-5
+    add-result-2
+    same-length-2
+    returns-2
+    add-buf-5
+    slice-write-buf-6
+    add-buf-6
+    slice-write-buf-7
+    add-result-3
+    same-length-3
+    returns-3)

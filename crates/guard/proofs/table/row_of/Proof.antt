@@ -1,0 +1,79 @@
+-- Each arm is its row, as the laws of rows say. Assumes nothing.
+use mathlib.Core.Path.{_∙_}
+use native.Mathlib.Omega.{arith}
+use Rattle.guard.proofs.RowLaws.{near-start, near-finish, near-abort, is-first, is-later, row-start, row-offer, row-picked, row-commit, row-abort, row-pick, row-answer, row-down}
+use borrow.Author.Needs.{needs}
+use Rattle.guard.proofs.table.row_of.Statement.{statement}
+use Rattle.guard.proofs.table.row_of.Tie as tie
+
+first-requires : tie.Need-first-requires
+first-requires c κs = search needs
+
+later-requires : tie.Need-later-requires
+later-requires c κs = search needs
+
+finish-requires : tie.Need-finish-requires
+finish-requires c κs = search needs
+
+finish-requires-2 : tie.Need-finish-requires-2
+finish-requires-2 c κs = search needs
+
+abort-requires : tie.Need-abort-requires
+abort-requires c κs = search needs
+
+returns : tie.Need-returns
+returns c = λ cs near. let e = c .before .before .match .keys1 in
+    let is = near ∙ near-start _ _ cs e in
+    row-start _ _ _ _ _ cs e (c .first .ensures cs _ (is-first cs _ is (c .before .if1 .taken)))
+
+returns-2 : tie.Need-returns-2
+returns-2 c = λ cs near. let e = c .before .before .match .keys1 in
+    let is = near ∙ near-start _ _ cs e in
+    row-start _ _ _ _ _ cs e (c .later .ensures cs _ (is-later cs _ is (c .before .if1 .left)) is)
+
+returns-3 : tie.Need-returns-3
+returns-3 c = λ cs near. let e = c .before .match .keys2 in
+    row-offer _ _ _ _ _ cs e (c .finish .ensures cs (near ∙ near-finish _ _ cs (omega arith) (omega arith)))
+
+returns-4 : tie.Need-returns-4
+returns-4 c = λ cs near. row-picked _ _ _ _ _ cs (c .before .match .keys3) (c .if2 .taken)
+
+returns-5 : tie.Need-returns-5
+returns-5 c = λ cs near. let e = c .before .before .match .keys3 in
+    row-commit _ _ _ _ _ cs e (c .before .if2 .left) (c .finish2 .ensures cs (near ∙ near-finish _ _ cs (omega arith) (omega arith)))
+
+returns-6 : tie.Need-returns-6
+returns-6 c = λ cs near. let e = c .before .match .keys4 in
+    row-abort _ _ _ _ _ cs e (c .abort .ensures cs (near ∙ near-abort _ _ cs e))
+
+returns-7 : tie.Need-returns-7
+returns-7 c = λ cs near. row-pick _ _ _ _ _ cs (c .match .keys5)
+
+returns-8 : tie.Need-returns-8
+returns-8 c = λ cs near. row-answer _ _ _ _ _ cs (omega arith) (omega arith)
+
+returns-9 : tie.Need-returns-9
+returns-9 c = λ cs near. row-down _ _ _ _ _ cs (λ a b. omega arith)
+
+returns-10 : tie.Need-returns-10
+returns-10 c = λ cs near. row-down _ _ _ _ _ cs (λ a b. omega arith)
+
+pub row-of-spec : {M : Type 1} → statement M
+row-of-spec =
+    tie.close
+    (tie.spec
+    first-requires
+    later-requires
+    finish-requires
+    finish-requires-2
+    abort-requires
+    returns
+    returns-2
+    returns-3
+    returns-4
+    returns-5
+    returns-6
+    returns-7
+    returns-8
+    returns-9
+    returns-10)
