@@ -20,6 +20,9 @@
  *
  * Marks: 0 not started, 1 running, 2 offered, 3 committed, 4 failed, 5 turned down.
  * Retention classes: 0 none, 1 aired (a year), 2 draft (a week), 3 log only (one day).
+ *   a block has class 0; a task's class goes by its mark and a table of 12 bytes: six frames of mark and class, marks 00
+ *   to 05 in order, classes 00 to 03, and mark 00 has class 00
+ *   the common table is 00 00 01 03 02 03 03 01 04 02 05 02; a house can hand in its own (vulcedar_record_by)
  *
  * Rules: one byte says by which rule an event passes, for a log. Its low hexadecimal digit is the event's code, its high
  * digit a kind: for offer, commit, abort, yes and no the kind of the node itself; for start, pick and turned down the kind
@@ -40,6 +43,7 @@
  *    5  wrong number of children                   13  pass: answer of a task or conditional not 1 or 2
  *    6  depth above 32                             14  pass: an xor's answer is no offering child, or 0 while one
  *    7  a buffer has a wrong length                    offers
+ *                                                  21  the table of classes is not one (found before 1)
  *
  * A refused call leaves every byte of every buffer as it was. No function keeps or allocates anything; each may be
  * called from any thread. Buffers of one call must not overlap, and nobody else may write them during the call. A
@@ -129,7 +133,10 @@ uint32_t vulcedar_pass(const uint8_t *plan, size_t plan_len, const uint8_t *answ
 uint32_t vulcedar_simulate(const uint8_t *plan, size_t plan_len, uint32_t code, uint32_t node, uint32_t site, uint8_t *state,
                            size_t state_len);
 
-/* The record of a simulation: every node's mark by its own site's row, and its class. 1 to 7. */
+/*
+ * The record of a simulation: every node's mark by its own site's row, and its class by the common table. marks and
+ * classes have one byte a node. 1 to 7.
+ */
 uint32_t vulcedar_record(const uint8_t *plan, size_t plan_len, const uint8_t *state, size_t state_len, uint8_t *marks,
                          size_t marks_len, uint8_t *classes, size_t classes_len);
 
@@ -140,6 +147,14 @@ uint32_t vulcedar_record(const uint8_t *plan, size_t plan_len, const uint8_t *st
  */
 uint32_t vulcedar_central(const uint8_t *plan, size_t plan_len, uint32_t code, uint32_t node, uint8_t *marks, size_t marks_len,
                           uint8_t *notes, size_t notes_len);
+
+/*
+ * The same record, classed by the house's own table: 12 bytes, six frames of mark and class (above). 21 if the table has
+ * another length, its marks are not 00 to 05 in order, a class is above 03, or mark 00 has another class than 00; then 1
+ * to 7. marks and classes are written only on 0.
+ */
+uint32_t vulcedar_record_by(const uint8_t *plan, size_t plan_len, const uint8_t *table, size_t table_len, const uint8_t *state,
+                            size_t state_len, uint8_t *marks, size_t marks_len, uint8_t *classes, size_t classes_len);
 
 #ifdef __cplusplus
 }

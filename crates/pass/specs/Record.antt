@@ -1,23 +1,41 @@
--- The record of a job (rules G): every node's mark and retention class, which the paper calls filing class. Definitions only.
-use mathlib.Core.Bool.{cond}
+-- The record of a job (rules G): every node's mark and retention class, which the paper calls filing class, by a table from marks to classes.
+-- Definitions only.
+use mathlib.Core.Bool.{Bool, cond, _&&_}
 use mathlib.Core.List.{List, [], _∷_}
-use Prim.Native.Nat.{ℕ}
-use lib.ListN.{getD}
-use Rattle.lists.specs.Seq.{table}
+use Prim.Native.Nat.{ℕ, _+_, _*_}
+use lib.Dec.{eqb, leb}
+use lib.ListN.{length, getD}
+use Rattle.lists.specs.Seq.{allBelow, table}
 use Rattle.plan.specs.Plan.{task, isKind, kind, size}
 
--- G1: the class of a task's mark, marks 0 to 5
-unfoldable pub classTable : List ℕ
-classTable = 0 ∷ 3 ∷ 3 ∷ 1 ∷ 2 ∷ 2 ∷ []
+-- G1: the table where the house hands in none: frames of a mark and its class
+unfoldable pub commonTable : List ℕ
+commonTable = 0 ∷ 0 ∷ 1 ∷ 3 ∷ 2 ∷ 3 ∷ 3 ∷ 1 ∷ 4 ∷ 2 ∷ 5 ∷ 2 ∷ []
 
--- G2: the class of node v, by the marks of all nodes; a block's is 0
-unfoldable pub class : List ℕ → List ℕ → ℕ → ℕ
-class p marks v = cond (isKind task (kind p v)) (getD classTable (getD marks v 0) 0) 0
+-- G4: frame i is mark i and a class, 0 to 3
+unfoldable pub frameOk : List ℕ → ℕ → Bool
+frameOk tab i = eqb (getD tab (2 * i) 0) i && leb (getD tab (2 * i + 1) 0) 3
+
+-- G4: six such frames, and mark 0 has class 0
+unfoldable pub tableOk : List ℕ → Bool
+tableOk tab = eqb (length tab) 12 && eqb (getD tab 1 0) 0 && allBelow (frameOk tab) 6
+
+-- H21
+unfoldable pub tableNumber : List ℕ → ℕ
+tableNumber tab = cond (tableOk tab) 0 21
+
+-- G1: the class that a table has for a mark
+unfoldable pub classOf : List ℕ → ℕ → ℕ
+classOf tab mark = getD tab (2 * mark + 1) 0
+
+-- G1, G2: the class of node v by a table, by the marks of all nodes; a block's is 0
+unfoldable pub class : List ℕ → List ℕ → List ℕ → ℕ → ℕ
+class p tab marks v = cond (isKind task (kind p v)) (classOf tab (getD marks v 0)) 0
 
 pub record Record : Type 0 where
   pub marks : List ℕ
   pub classes : List ℕ
 
--- G3: the record by a list of marks
-unfoldable pub recordOf : List ℕ → List ℕ → Record
-recordOf p marks = record { marks = marks; classes = table (class p marks) (size p) }
+-- G3: the record by a table and a list of marks
+unfoldable pub recordOf : List ℕ → List ℕ → List ℕ → Record
+recordOf p tab marks = record { marks = marks; classes = table (class p tab marks) (size p) }

@@ -7,7 +7,7 @@ ghost use Rattle.plan.specs.Plan.{kindOf, size};
 ghost use Rattle.plan.specs.Check.{Accepted};
 ghost use Rattle.pass.specs.Pass.{goes, skip, note, childMark, badAnswer, badPick, closes, endOf, numberOf, rootMark, passed, passInto};
 ghost use Rattle.pass.specs.Values.{outcomeOf, tallyOf, taskEnd, Ready, linkAt, Linked, Settles};
-ghost use Rattle.pass.specs.Record.{class};
+ghost use Rattle.pass.specs.Record.{commonTable, frameOk, tableNumber, class};
 
 // How a node ends; a fault has its number.
 enum Outcome {
@@ -296,17 +296,53 @@ pub fn pass(plan: &[u8], answers: &[u8], marks: &mut [u8]) -> u8
     settle_all(plan, answers, marks)
 }
 
-// The retention class of node v.
-pub fn class(plan: &[u8], marks: &[u8], v: u8) -> u8
-    ensures { λ r. ⌜ r ≡ class (now (plan .entry)) (now (marks .entry)) v ⌝ }
+// The table of classes where the house hands in none.
+pub fn common_table() -> [u8; 12]
+    ensures { λ r. ⌜ r ≡ commonTable ⌝ }
+{
+    [0, 0, 1, 3, 2, 3, 3, 1, 4, 2, 5, 2]
+}
+
+// Frame i of a table is mark i and a class.
+fn frame_ok(table: &[u8], i: usize) -> bool
+    requires { ⌜ i < 6 ⌝ }
+    ensures { λ r. ⌜ r ≡ frameOk (now (table .entry)) i ⌝ }
+{
+    if plan::wide(plan::byte_at(table, 2 * i)) != i {
+        return false;
+    }
+    plan::byte_at(table, 2 * i + 1) <= 3
+}
+
+// A table of classes is checked: 0, or 21.
+pub fn check_table(table: &[u8]) -> u8
+    ensures { λ r. ⌜ r ≡ tableNumber (now (table .entry)) ⌝ }
+{
+    if table.len() != 12 {
+        return 21;
+    }
+    if plan::byte_at(table, 1) != 0 {
+        return 21;
+    }
+    let mut i = 0;
+    while i < 6 {
+        if !frame_ok(table, i) {
+            return 21;
+        }
+        i += 1;
+    }
+    0
+}
+
+// The retention class of node v by a table.
+pub fn class(plan: &[u8], table: &[u8], marks: &[u8], v: u8) -> u8
+    ensures { λ r. ⌜ r ≡ class (now (plan .entry)) (now (table .entry)) (now (marks .entry)) v ⌝ }
 {
     match plan::kind(plan, v) {
         2..=8 => 0,
-        _ => match plan::byte_at(marks, plan::wide(v)) {
-            1..=2 => 3,
-            3 => 1,
-            4..=5 => 2,
-            _ => 0,
-        },
+        _ => {
+            let mark = plan::byte_at(marks, plan::wide(v));
+            plan::byte_at(table, 2 * plan::wide(mark) + 1)
+        }
     }
 }

@@ -1,6 +1,9 @@
--- The claim of this crate. Assumes nothing.
-use Rattle.script.specs.Script.{PrintedFits}
-use Rattle.script.proofs.ScriptLaws.{text-fits}
+-- The claims of this crate. Assumes nothing.
+use Rattle.script.specs.Script.{PrintedFits, WithoutTable}
+use Rattle.script.proofs.ScriptLaws.{text-fits, text-without}
 
 pub printed-fits : PrintedFits
 printed-fits = text-fits
+
+pub without-table : WithoutTable
+without-table = text-without

@@ -15,11 +15,11 @@ use Rattle.plan.specs.Plan.{size}
 use Rattle.plan.specs.Check.{checkNumber}
 use Rattle.plan.proofs.Main.{check-exact}
 use Rattle.event.specs.Site.{own}
-use Rattle.pass.specs.Record.{recordOf}
+use Rattle.pass.specs.Record.{tableNumber, recordOf}
 use Rattle.simulation.specs.Simulation.{Step, simulate, stateFits, zeros, replay, numbersFrom, endMarks}
 use Rattle.script.specs.Script.{Zeros}
 use Rattle.lists.proofs.Parts.{part-length, Back}
-use Rattle.simulation.specs.Run.{fitNumber, Recorded, recorded, recordNumber, recordInto, stepsOf, stepsFrom, Ran, ran, runNumber, runOf}
+use Rattle.simulation.specs.Run.{fitNumber, Recorded, recorded, recordNumber, recordByNumber, recordByInto, stepsOf, stepsFrom, Ran, ran, runNumber, runOf}
 
 fit-is : (p : List ℕ) → fitNumber p true ≡ checkNumber p
 unfolding fitNumber
@@ -29,25 +29,25 @@ fit-is p = cases (decided (eqb (checkNumber p) 0)) (λ e. rw e (sym (eqb-true (c
 pub plan-few : (p : List ℕ) → checkNumber p ≡ 0 → size p ≤ 160
 plan-few p ok = (check-exact p) .0 ok .few
 
-pub record RecordTold (p st : List ℕ) (n : ℕ) (y z m′ c′ : List ℕ) : Type 0 where
-  pub marks : m′ ≡ recordOf p (endMarks p (own p) st) .marks
-  pub classes : c′ ≡ recordOf p (endMarks p (own p) st) .classes
+pub record RecordTold (p tab st : List ℕ) (n : ℕ) (y z m′ c′ : List ℕ) : Type 0 where
+  pub marks : m′ ≡ recordOf p tab (endMarks p (own p) st) .marks
+  pub classes : c′ ≡ recordOf p tab (endMarks p (own p) st) .classes
   pub marks-back : Back m′ y n
   pub classes-back : Back c′ z n
 
-module _ (p st : List ℕ) (ok : checkNumber p ≡ 0) (fits : length st ≡ size p * size p) (n : ℕ) (count : n ≡ size p) (y z : List ℕ) (ly : 160 ≡ length y) (lz : 160 ≡ length z) where
+module _ (p tab st : List ℕ) (right : tableNumber tab ≡ 0) (ok : checkNumber p ≡ 0) (fits : length st ≡ size p * size p) (n : ℕ) (count : n ≡ size p) (y z : List ℕ) (ly : 160 ≡ length y) (lz : 160 ≡ length z) where
   pub node-room : n ≤ 160
   node-room = omega (arith, plan-few p ok)
 
   long : (x : List ℕ) → 160 ≡ length x → eqb (length (take n x)) (size p) ≡ true
   long x l = eq-eqb (length (take n x)) (size p) (sym (part-length x n (omega (arith, node-room))) ∙ count)
 
-  recordable : recordNumber p st (take n y) (take n z) ≡ 0
-  unfolding recordNumber stateFits own
-  recordable = rw (eq-eqb (length st) (size p * size p) fits, long y ly, long z lz) (fit-is p ∙ ok)
+  recordable : recordByNumber p tab st (take n y) (take n z) ≡ 0
+  unfolding recordByNumber recordNumber stateFits own
+  recordable = rw (right, eq-eqb (length st) (size p * size p) fits, long y ly, long z lz) (fit-is p ∙ ok)
 
-  pub record-told : (r : ℕ) (m′ c′ : List ℕ) → recordInto p st (take n y) (take n z) ≡ recorded r m′ c′ → RecordTold p st n y z m′ c′
-  unfolding recordInto recordOf endMarks
+  pub record-told : (r : ℕ) (m′ c′ : List ℕ) → recordByInto p tab st (take n y) (take n z) ≡ recorded r m′ c′ → RecordTold p tab st n y z m′ c′
+  unfolding recordByInto recordOf endMarks
   record-told r m′ c′ h =
       let q = rw recordable at h in
       let a = sym (ap (λ (x : Recorded). x .marks) q) in

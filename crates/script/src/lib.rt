@@ -1,4 +1,4 @@
-// A whole simulation as a function from text to text: reads a plan and steps, runs them from zeros and prints the numbers and the record.
+// A whole simulation as a function from text to text: reads a table of classes, a plan and steps, runs them from zeros and prints the numbers and the record.
 // What it prints is specs/Script.antt. No public function has a `requires`.
 ghost use mathlib.Core.Path.{_≡_};
 ghost use Prim.Native.Nat.{_+_, _*_, _%_, _≤_};
@@ -7,11 +7,11 @@ ghost use Rattle.lists.specs.Put.{Put};
 ghost use Rattle.plan.specs.Plan.{size};
 ghost use Rattle.plan.specs.Check.{checkNumber};
 ghost use Rattle.event.specs.Site.{own};
-ghost use Rattle.pass.specs.Record.{recordOf};
+ghost use Rattle.pass.specs.Record.{tableNumber, recordOf};
 ghost use Rattle.simulation.specs.Simulation.{endMarks};
 ghost use Rattle.simulation.specs.Run.{stepsOf};
 ghost use Rattle.text.specs.Calls.{printing};
-ghost use Rattle.script.specs.Script.{numberLine, nodeLine, numberLines, nodeLines, planPrinted, rehearseInto, Zeros};
+ghost use Rattle.script.specs.Script.{numberLine, nodeLine, numberLines, nodeLines, planPrinted, rehearseInto, readNumber, Zeros};
 
 // The line of a number.
 fn put_number(number: u8, out: &mut [u8], at: usize) -> usize
@@ -72,17 +72,17 @@ fn node_buffer() -> [u8; 160]
     [0; 160]
 }
 
-// A line for each node, by the record of a state.
-fn put_record(plan: &[u8], state: &[u8], out: &mut [u8], at: usize) -> usize
-    requires { ⌜ checkNumber (now plan) ≡ 0 ⌝ }
+// A line for each node, by the record of a state and a table.
+fn put_record(plan: &[u8], tab: &[u8], state: &[u8], out: &mut [u8], at: usize) -> usize
+    requires { ⌜ (tableNumber (now tab) ≡ 0) × (checkNumber (now plan) ≡ 0) ⌝ }
     requires { ⌜ length (now state) ≡ size (now plan) * size (now plan) ⌝ }
     requires { ⌜ at + 1440 ≤ length (now out) ⌝ }
-    ensures { λ r. ⌜ Put (nodeLines (now (plan .entry)) (recordOf (now (plan .entry)) (endMarks (now (plan .entry)) (own (now (plan .entry))) (now (state .entry))))) (now (out .entry)) at (now (out .exit)) r ⌝ }
+    ensures { λ r. ⌜ Put (nodeLines (now (plan .entry)) (recordOf (now (plan .entry)) (now (tab .entry)) (endMarks (now (plan .entry)) (own (now (plan .entry))) (now (state .entry))))) (now (out .entry)) at (now (out .exit)) r ⌝ }
 {
     let n = plan::node_count(plan);
     let mut marks = node_buffer();
     let mut classes = node_buffer();
-    simulation::record(plan, state, &mut marks[..n], &mut classes[..n]);
+    simulation::record_by(plan, tab, state, &mut marks[..n], &mut classes[..n]);
     put_nodes(plan, &marks[..n], &classes[..n], out, at)
 }
 
@@ -100,12 +100,13 @@ fn number_buffer() -> [u8; 4681]
     [0; 4681]
 }
 
-// What is printed for a plan and steps in frames of three bytes.
-fn put_simulation(plan: &[u8], steps: &[u8], out: &mut [u8]) -> usize
+// What is printed for a plan and steps in frames of three bytes, by a table.
+fn put_simulation(plan: &[u8], tab: &[u8], steps: &[u8], out: &mut [u8]) -> usize
+    requires { ⌜ tableNumber (now tab) ≡ 0 ⌝ }
     requires { ⌜ length (now plan) ≤ 320 ⌝ }
     requires { ⌜ (length (now steps) ≤ 14043) × (length (now steps) % 3 ≡ 0) ⌝ }
     requires { ⌜ 16384 ≤ length (now out) ⌝ }
-    ensures { λ r. ⌜ Put (planPrinted (now (plan .entry)) (stepsOf (now (steps .entry)))) (now (out .entry)) 0 (now (out .exit)) r ⌝ }
+    ensures { λ r. ⌜ Put (planPrinted (now (tab .entry)) (now (plan .entry)) (stepsOf (now (steps .entry)))) (now (out .entry)) 0 (now (out .exit)) r ⌝ }
 {
     let n = plan::node_count(plan);
     let cells = n * n;
@@ -117,7 +118,7 @@ fn put_simulation(plan: &[u8], steps: &[u8], out: &mut [u8]) -> usize
         return put_number(number, out, 0);
     }
     let w = put_numbers(&numbers[..m], out);
-    put_record(plan, &state[..cells], out, w)
+    put_record(plan, tab, &state[..cells], out, w)
 }
 
 // Room for the plan's bytes, and for those of as many steps as fit into a text.
@@ -133,6 +134,19 @@ fn step_buffer() -> [u8; 14043]
     [0; 14043]
 }
 
+// The number of a table that was read into 12 bytes, by its bytes in the text.
+fn table_number(head: usize, tab: &[u8]) -> u8
+    ensures { λ r. ⌜ r ≡ readNumber head (now (tab .entry)) ⌝ }
+{
+    if head == 0 {
+        return pass::check_table(tab);
+    }
+    if head != 33 {
+        return 21;
+    }
+    pass::check_table(tab)
+}
+
 // Prints what a text gives at the front of `out` and answers its length; where `out` is shorter than 16,384 bytes, leaves it and answers 0.
 pub fn rehearse(text: &[u8], out: &mut [u8]) -> usize
     ensures { λ r. ⌜ rehearseInto (now (text .entry)) (now (out .entry)) ≡ printing r (now (out .exit)) ⌝ }
@@ -140,11 +154,16 @@ pub fn rehearse(text: &[u8], out: &mut [u8]) -> usize
     if out.len() < 16384 {
         return 0;
     }
+    let mut tab = pass::common_table();
     let mut plan = plan_buffer();
     let mut steps = step_buffer();
-    let counts = text::read(text, &mut plan, &mut steps);
+    let counts = text::read(text, &mut tab, &mut plan, &mut steps);
     if !counts.ok {
         return put_number(15, out, 0);
+    }
+    let bad = table_number(counts.head, &tab);
+    if bad != 0 {
+        return put_number(bad, out, 0);
     }
     let n = counts.plan;
     let m = counts.steps;
@@ -153,5 +172,5 @@ pub fn rehearse(text: &[u8], out: &mut [u8]) -> usize
     }
     let a = 2 * n;
     let b = 3 * m;
-    put_simulation(&plan[..a], &steps[..b], out)
+    put_simulation(&plan[..a], &tab, &steps[..b], out)
 }

@@ -151,7 +151,7 @@ module _ (p : List ℕ) (ok : Accepted p) (lay : Layout) (housed : Housed p lay)
     few = five-events p;
     had = had;
     accepts = λ ts over a bytes g. ap (λ r. r .number) (pass-is ts over a bytes g);
-    same-record = λ ts over a bytes g. ap (λ r. recordOf p (r .marks)) (pass-is ts over a bytes g);
+    same-record = λ ts over a bytes g tab. ap (λ r. recordOf p tab (r .marks)) (pass-is ts over a bytes g);
     ends = ended;
     agreed = answers-agree p ok;
     faithful = λ ts e a h. (λ n. sym (number-at ts e a h) ∙ eq-eqb _ 0 n, λ k. eqb-true _ 0 (number-at ts e a h ∙ k));

@@ -15,9 +15,9 @@ use Rattle.plan.specs.Check.{checkNumber, Accepted}
 use Rattle.plan.proofs.Main.{check-exact}
 use Rattle.event.specs.Site.{own}
 use Rattle.central.specs.Mark.{markNumber}
-use Rattle.pass.specs.Record.{class, recordOf}
+use Rattle.pass.specs.Record.{tableNumber, class, recordOf}
 use Rattle.simulation.specs.Simulation.{stateFits, markAt, endMarks}
-use Rattle.simulation.specs.Run.{markByte, fitNumber, recorded, recordNumber, recordInto, runNumber}
+use Rattle.simulation.specs.Run.{markByte, fitNumber, recorded, recordNumber, recordByNumber, recordByInto, runNumber}
 use Rattle.simulation.proofs.CodeLaws.{mark-byte}
 
 -- no number: the plan is accepted and the lengths are right
@@ -44,9 +44,14 @@ module _ (p st m c : List ℕ) where
   unfolding recordNumber stateFits own
   record-told n e b f r g = g ∙ rw (f, e)
 
-  pub record-refused : (r : ℕ) → r ≡ recordNumber p st m c → (r ≡ 0 → ⊥) → recordInto p st m c ≡ recorded r m c
-  unfolding recordInto
-  record-refused r e h = rw (ne-eqb (recordNumber p st m c) 0 (λ z. h (e ∙ z)), e)
+  -- the table's number, and the others behind it
+  pub table-refused : (tab : List ℕ) (r : ℕ) → r ≡ tableNumber tab → (r ≡ 0 → ⊥) → recordByInto p tab st m c ≡ recorded r m c
+  unfolding recordByInto recordByNumber
+  table-refused tab r e h = let n = ne-eqb (tableNumber tab) 0 (λ z. h (e ∙ z)) in rw (n, n, e)
+
+  pub record-refused : (tab : List ℕ) → tableNumber tab ≡ 0 → (r : ℕ) → r ≡ recordNumber p st m c → (r ≡ 0 → ⊥) → recordByInto p tab st m c ≡ recorded r m c
+  unfolding recordByInto recordByNumber
+  record-refused tab ok r e h = rw (ok, ne-eqb (recordNumber p st m c) 0 (λ z. h (e ∙ z)), e)
 
   module _ (zero : recordNumber p st m c ≡ 0) where
     tests : Accepted p × ((eqb (length st) (size p * size p) && eqb (length m) (size p) && eqb (length c) (size p)) ≡ true)
@@ -64,12 +69,12 @@ module _ (p st m c : List ℕ) where
           rw e (eqb-true _ _ (and-right (eqb (length st) (size p * size p) && eqb (length m) (size p)) _ t)),
         )
 
-    pub record-done : (n : ℕ) → n ≡ size p → (m′ c′ : List ℕ) → m′ ≡ table (λ v. markByte (getD st (v * n + v) 0)) n → c′ ≡ table (class p m′) (size p) →
-        recordInto p st m c ≡ recorded 0 m′ c′
-    unfolding recordInto recordOf
-    record-done n e m′ c′ f g =
+    pub record-done : (tab : List ℕ) → tableNumber tab ≡ 0 → (n : ℕ) → n ≡ size p → (m′ c′ : List ℕ) → m′ ≡ table (λ v. markByte (getD st (v * n + v) 0)) n →
+        c′ ≡ table (class p tab m′) (size p) → recordByInto p tab st m c ≡ recorded 0 m′ c′
+    unfolding recordByInto recordByNumber recordOf
+    record-done tab ok n e m′ c′ f g =
         let h : m′ ≡ endMarks p (own p) st = (rw e at f) ∙ marks-same p st in
-        rw (zero, g, h)
+        rw (ok, zero, g, h)
 
 module _ (p bs st ns : List ℕ) where
   pub run-told : (n : ℕ) → n ≡ size p → (b : Bool) → b ≡ (eqb (length st) (n * n) && eqb (length bs % 3) 0 && eqb (length ns) (length bs / 3)) →

@@ -56,10 +56,10 @@ pub record Claim (p : List ℕ) (lay : Layout) : Type 0 where
   pub few : (es : List Event) → isRun p es ≡ true → length es ≤ 5 * size p
   -- I7
   pub had : (es : List Event) → isRun p es ≡ true → (ts : List Step) × (passed p lay ts ≡ es) × ((q : ℕ) → q < lay .rows → Informed p lay ts q)
-  -- I10: the pass accepts agreeing answers, and its record is the end record
+  -- I10: the pass accepts agreeing answers, and its record is the end record, by every table
   pub accepts : (ts : List Step) → Over p lay ts → (a : List ℕ) → Bytes (size p) a → Agrees p (among (passed p lay ts)) a → pass p a .number ≡ 0
   pub same-record : (ts : List Step) → Over p lay ts → (a : List ℕ) → Bytes (size p) a → Agrees p (among (passed p lay ts)) a →
-      recordOf p (pass p a .marks) ≡ recordOf p (endMarks p lay (replay p lay ts))
+      (tab : List ℕ) → recordOf p tab (pass p a .marks) ≡ recordOf p tab (endMarks p lay (replay p lay ts))
   -- I8, I9: neither premise of I10 is empty. Every run goes on to one whose job is over, and some answers agree with every run
   pub ends : (es : List Event) → isRun p es ≡ true → (fs : List Event) × (ts : List Step) × (passed p lay ts ≡ es ++ fs) × Over p lay ts
   pub agreed : (es : List Event) → isRun p es ≡ true → (a : List ℕ) × Bytes (size p) a × Agrees p (among es) a

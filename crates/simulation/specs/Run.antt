@@ -12,7 +12,7 @@ use Rattle.event.specs.Event.{eventOf}
 use Rattle.event.specs.Site.{own, siteOf}
 use Rattle.event.specs.Bit.{hasBit}
 use Rattle.event.specs.Valid.{invalid}
-use Rattle.pass.specs.Record.{Record, recordOf}
+use Rattle.pass.specs.Record.{commonTable, tableNumber, Record, recordOf}
 use Rattle.simulation.specs.Simulation.{Step, stepFrom, Reply, simulate, stateFits, replayFrom, numbersFrom, endMarks}
 
 -- q is the row of the event's site in a state of len bytes; a q that is no row of the plan says that the call is not valid
@@ -32,7 +32,7 @@ simulateOf p code node site st = simulate p (own p) st (stepFrom code node site)
 unfoldable pub fitNumber : List ℕ → Bool → ℕ
 fitNumber p fits = cond (not (eqb (checkNumber p) 0)) (checkNumber p) (cond (not fits) 7 0)
 
--- G3: the record into two buffers
+-- G3: the record by a table, into two buffers
 pub record Recorded : Type 0 where
   pub number : ℕ
   pub marks : List ℕ
@@ -47,10 +47,18 @@ recordNumber p st m c = fitNumber p (stateFits p (own p) st && eqb (length m) (s
 abbrev written : Record → Recorded
 written r = recorded 0 (r .marks) (r .classes)
 
-unfoldable pub recordInto : List ℕ → List ℕ → List ℕ → List ℕ → Recorded
-recordInto p st m c =
-    cond (not (eqb (recordNumber p st m c) 0)) (recorded (recordNumber p st m c) m c)
-    (written (recordOf p (endMarks p (own p) st)))
+-- H0, H21: the table's number comes before the plan's
+unfoldable pub recordByNumber : List ℕ → List ℕ → List ℕ → List ℕ → List ℕ → ℕ
+recordByNumber p tab st m c = cond (not (eqb (tableNumber tab) 0)) (tableNumber tab) (recordNumber p st m c)
+
+unfoldable pub recordByInto : List ℕ → List ℕ → List ℕ → List ℕ → List ℕ → Recorded
+recordByInto p tab st m c =
+    cond (not (eqb (recordByNumber p tab st m c) 0)) (recorded (recordByNumber p tab st m c) m c)
+    (written (recordOf p tab (endMarks p (own p) st)))
+
+-- G1: without a table, by the common one
+abbrev pub recordInto : List ℕ → List ℕ → List ℕ → List ℕ → Recorded
+recordInto p st m c = recordByInto p commonTable st m c
 
 -- J1: the steps of n frames of three bytes, from byte i on
 unfoldable pub stepsFrom : ℕ → List ℕ → ℕ → List Step

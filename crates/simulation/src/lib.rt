@@ -11,7 +11,7 @@ ghost use Rattle.plan.specs.Plan.{size};
 ghost use Rattle.event.specs.Site.{own};
 ghost use Rattle.pass.specs.Record.{class};
 ghost use Rattle.simulation.specs.Simulation.{reply, happen, tell, replayFrom, numbersFrom};
-ghost use Rattle.simulation.specs.Run.{Placed, markByte, simulateOf, fitNumber, recorded, recordInto, stepsOf, ran, runOf};
+ghost use Rattle.simulation.specs.Run.{Placed, markByte, simulateOf, fitNumber, recorded, recordByInto, recordInto, stepsOf, ran, runOf};
 
 // What a step answers: its number, 0 passed; the event's site with 0, 10 and 11, else 0; the rule of an event that passed, else 0.
 pub struct Reply {
@@ -166,15 +166,15 @@ fn fit(plan: &[u8], fits: bool) -> u8
     if fits { 0 } else { 7 }
 }
 
-// Every node's class, one byte a node.
-fn write_classes(plan: &[u8], marks: &[u8], classes: &mut [u8])
+// Every node's class by a table, one byte a node.
+fn write_classes(plan: &[u8], tab: &[u8], marks: &[u8], classes: &mut [u8])
     requires { ⌜ (size (now plan) ≤ 160) × (length (now classes) ≡ size (now plan)) ⌝ }
-    ensures { λ _. ⌜ now (classes .exit) ≡ table (class (now (plan .entry)) (now (marks .entry))) (size (now (plan .entry))) ⌝ }
+    ensures { λ _. ⌜ now (classes .exit) ≡ table (class (now (plan .entry)) (now (tab .entry)) (now (marks .entry))) (size (now (plan .entry))) ⌝ }
 {
     let n = plan::node_count(plan);
     let mut v = 0;
     while v < n {
-        classes[v] = pass::class(plan, marks, v as u8);
+        classes[v] = pass::class(plan, tab, marks, v as u8);
         v += 1;
     }
 }
@@ -191,10 +191,14 @@ fn record_fits(n: usize, state: usize, marks: usize, classes: usize) -> bool
     classes == n
 }
 
-// The record: every node's mark by its own site's row, and its class.
-pub fn record(plan: &[u8], state: &[u8], marks: &mut [u8], classes: &mut [u8]) -> u8
-    ensures { λ r. ⌜ recordInto (now (plan .entry)) (now (state .entry)) (now (marks .entry)) (now (classes .entry)) ≡ recorded r (now (marks .exit)) (now (classes .exit)) ⌝ }
+// The record: every node's mark by its own site's row, and its class by the house's own table.
+pub fn record_by(plan: &[u8], tab: &[u8], state: &[u8], marks: &mut [u8], classes: &mut [u8]) -> u8
+    ensures { λ r. ⌜ recordByInto (now (plan .entry)) (now (tab .entry)) (now (state .entry)) (now (marks .entry)) (now (classes .entry)) ≡ recorded r (now (marks .exit)) (now (classes .exit)) ⌝ }
 {
+    let bad = pass::check_table(tab);
+    if bad != 0 {
+        return bad;
+    }
     let n = plan::node_count(plan);
     let number = fit(
         plan,
@@ -204,8 +208,16 @@ pub fn record(plan: &[u8], state: &[u8], marks: &mut [u8], classes: &mut [u8]) -
         return number;
     }
     write_marks(n, state, marks);
-    write_classes(plan, marks, classes);
+    write_classes(plan, tab, marks, classes);
     0
+}
+
+// The record by the common table.
+pub fn record(plan: &[u8], state: &[u8], marks: &mut [u8], classes: &mut [u8]) -> u8
+    ensures { λ r. ⌜ recordInto (now (plan .entry)) (now (state .entry)) (now (marks .entry)) (now (classes .entry)) ≡ recorded r (now (marks .exit)) (now (classes .exit)) ⌝ }
+{
+    let tab = pass::common_table();
+    record_by(plan, &tab, state, marks, classes)
 }
 
 fn wide32(x: u8) -> u32

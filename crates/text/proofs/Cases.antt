@@ -1,11 +1,11 @@
--- Rule J2, case by case: which texts are well-formed. Assumes nothing.
+-- Rules J2 and J4, case by case: which texts are well-formed. Assumes nothing.
 use mathlib.Core.Path.{_≡_, refl}
 use mathlib.Core.Bool.{Bool, true, false}
 use mathlib.Core.List.{List, [], _∷_, _++_, map}
 use Prim.Native.Nat.{ℕ}
 use Rattle.lists.specs.Seq.{allBelow}
 use Rattle.text.specs.Hex.{isDigit, digitAt, isLine}
-use Rattle.text.specs.Text.{linesWithin, lines, planLines, isBar, barText, stepText, stepLines, wellFormed}
+use Rattle.text.specs.Text.{linesWithin, lines, isBar, hasTable, bodyAt, body, planLines, barText, stepText, stepLines, bodyFormed, wellFormed}
 
 pub record Case : Type 0 where
   pub text : List ℕ
@@ -14,12 +14,15 @@ pub record Case : Type 0 where
 abbrev pub case : List ℕ → Bool → Case
 case t f = record { text = t; formed = f }
 
--- the lines `01ff`, `--` and `0100ff`
+-- the lines `01ff`, `--`, `==` and `0100ff`
 abbrev pub node : List ℕ
 node = 48 ∷ 49 ∷ 102 ∷ 102 ∷ 10 ∷ []
 
 abbrev pub bar : List ℕ
 bar = 45 ∷ 45 ∷ 10 ∷ []
+
+abbrev pub close : List ℕ
+close = 61 ∷ 61 ∷ 10 ∷ []
 
 abbrev pub step : List ℕ
 step = 48 ∷ 49 ∷ 48 ∷ 48 ∷ 102 ∷ 102 ∷ 10 ∷ []
@@ -45,8 +48,17 @@ cases =
     ∷ case (node ++ (45 ∷ 45 ∷ 45 ∷ 10 ∷ [])) false
     ∷ case (node ++ (bar ++ (48 ∷ 49 ∷ 48 ∷ 48 ∷ 102 ∷ 102 ∷ []))) false  -- no last line feed
     ∷ case (node ++ (45 ∷ 45 ∷ [])) false
+    ∷ case (node ++ (close ++ (node ++ (bar ++ step)))) true  -- a table
+    ∷ case (close ++ (node ++ bar)) true  -- an empty one
+    ∷ case (close ++ (close ++ (node ++ bar))) false  -- two
+    ∷ case (node ++ (close ++ (node ++ (close ++ bar)))) false
+    ∷ case (node ++ (bar ++ close)) false  -- behind the line `--`
+    ∷ case (node ++ (close ++ node)) false  -- and no such line
+    ∷ case (step ++ (close ++ (node ++ bar))) false  -- a line of another length
+    ∷ case (10 ∷ (close ++ (node ++ bar))) false
+    ∷ case (node ++ (61 ∷ 10 ∷ (node ++ bar))) false
     ∷ []
 
 pub all-right : map (λ (c : Case). wellFormed (c .text)) cases ≡ map (λ (c : Case). c .formed) cases
-unfolding wellFormed planLines barText stepText stepLines isBar lines linesWithin isLine allBelow digitAt isDigit
+unfolding wellFormed bodyFormed body bodyAt hasTable planLines barText stepText stepLines isBar lines linesWithin isLine allBelow digitAt isDigit
 all-right = refl

@@ -1,12 +1,12 @@
 -- The main claim of this crate. Assumes nothing.
-use Rattle.text.specs.Text.{TextExact, planLines, stepLines, stepText}
+use Rattle.text.specs.Text.{TextExact, body, planLines, stepLines, stepText}
 use Rattle.text.proofs.TextLaws.{formed-short}
-use Rattle.text.proofs.Written.{lines-are, text-back}
-use Rattle.text.proofs.ReadBack.{plan-read, steps-read, formed-is}
+use Rattle.text.proofs.Written.{lines-are, head-lines, text-back}
+use Rattle.text.proofs.ReadBack.{table-read, plan-lines-read, step-lines-read, text-formed}
 
 pub text-exact : TextExact
 unfolding planLines stepLines
 text-exact = record {
-  written = λ t h. (lines-are 2 t, lines-are 3 (stepText t), text-back t h, formed-short t h);
-  read = λ ps ss hp hs l. (formed-is ps ss hp hs l, plan-read ps ss hp hs, steps-read ps ss hp hs);
+  written = λ t f. (head-lines t, lines-are 2 (body t), lines-are 3 (stepText (body t)), text-back t f, formed-short t f);
+  read = λ h ps ss hh hp hs l. (text-formed h ps ss hh hp hs l, table-read h ps ss hh hp hs, plan-lines-read h ps ss hh hp hs, step-lines-read h ps ss hh hp hs);
 }

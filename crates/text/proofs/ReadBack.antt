@@ -2,6 +2,7 @@
 use mathlib.Core.Path.{_≡_, refl, sym, _∙_, ap}
 use mathlib.Core.Bool.{true, false, _&&_}
 use mathlib.Core.List.{List, [], _∷_, _++_, flatMap, append-assoc, append-nil}
+use mathlib.Core.Option.{Option, none, some}
 use Prim.Native.Nat.{ℕ, zero, suc, _+_, _*_, _/_, _%_, _≤_, _<_}
 use native.Mathlib.Nat.{div-add-mod'}
 use native.Mathlib.Omega.{arith}
@@ -14,8 +15,8 @@ use Rattle.lists.proofs.Logic.{cases, decided, and-left, and-right}
 use Rattle.lists.proofs.Below.{below-by, below-at}
 use Rattle.lists.proofs.Table.{table-by}
 use Rattle.text.specs.Hex.{isDigit, valueOf, digitOf, digitAt, isLine, lineByte, lineBytes, hexLine}
-use Rattle.text.specs.Text.{lines, planLines, isBar, barText, stepText, stepLines, wellFormed, textOf, isBytes, areLines}
-use Rattle.text.proofs.TextLaws.{lines-none, lines-some}
+use Rattle.text.specs.Text.{lines, isBar, hasTable, bodyAt, body, planLines, barText, stepText, stepLines, bodyFormed, wellFormed, headOf, bodyOf, textOf, tableIn, isBytes, areLines, isHead}
+use Rattle.text.proofs.TextLaws.{lines-none, lines-some, table-at, no-table-body}
 use Rattle.text.proofs.PrintLaws.{hex-length}
 
 -- the digit of a value below 16 is a digit, and that is its value: all sixteen, computed
@@ -131,23 +132,101 @@ lines-long k (l ∷ ls) h =
       lines-long k ls (and-right (isBytes k l) (all (isBytes k) ls) h),
     )
 
+-- no line begins with a sign
+no-line : (c : ℕ) (s : List ℕ) → isDigit c ≡ false → isLine 2 (c ∷ s) ≡ false
+unfolding isLine allBelow digitAt
+no-line c s h = rw h
+
+-- the text behind the table
 module _ (ps ss : List (List ℕ)) (hp : areLines 2 ps ≡ true) (hs : areLines 3 ss ≡ true) where
-  pub plan-read : planLines (textOf ps ss) ≡ ps
-  unfolding planLines textOf
-  plan-read = lines-read 2 ps (45 ∷ 45 ∷ 10 ∷ flatMap hexLine ss) hp (unfold isLine allBelow digitAt isDigit in refl)
+  plan-read : planLines (bodyOf ps ss) ≡ ps
+  unfolding planLines bodyOf
+  plan-read = lines-read 2 ps (45 ∷ 45 ∷ 10 ∷ flatMap hexLine ss) hp (no-line 45 (45 ∷ 10 ∷ flatMap hexLine ss) (unfold isDigit in refl))
 
-  bar-is : barText (textOf ps ss) ≡ 45 ∷ 45 ∷ 10 ∷ flatMap hexLine ss
-  unfolding barText textOf
-  bar-is = ap (λ n. drop n (textOf ps ss)) (ap (λ ls. 5 * length ls) plan-read) ∙ drop-at (flatMap hexLine ps) (45 ∷ 45 ∷ 10 ∷ flatMap hexLine ss) (5 * length ps) (lines-long 2 ps hp)
+  bar-is : barText (bodyOf ps ss) ≡ 45 ∷ 45 ∷ 10 ∷ flatMap hexLine ss
+  unfolding barText bodyOf
+  bar-is = ap (λ n. drop n (bodyOf ps ss)) (ap (λ ls. 5 * length ls) plan-read) ∙ drop-at (flatMap hexLine ps) (45 ∷ 45 ∷ 10 ∷ flatMap hexLine ss) (5 * length ps) (lines-long 2 ps hp)
 
-  step-is : stepText (textOf ps ss) ≡ flatMap hexLine ss
+  step-is : stepText (bodyOf ps ss) ≡ flatMap hexLine ss
   unfolding stepText barText
-  step-is = sym (drop-drop 3 (5 * length (planLines (textOf ps ss))) (textOf ps ss)) ∙ ap (drop 3) bar-is
+  step-is = sym (drop-drop 3 (5 * length (planLines (bodyOf ps ss))) (bodyOf ps ss)) ∙ ap (drop 3) bar-is
 
-  pub steps-read : stepLines (textOf ps ss) ≡ ss
+  steps-read : stepLines (bodyOf ps ss) ≡ ss
   unfolding stepLines
   steps-read = ap (lines 3) (step-is ∙ sym (append-nil (flatMap hexLine ss))) ∙ lines-read 3 ss [] hs (unfold isLine allBelow digitAt isDigit in refl)
 
-  pub formed-is : length (textOf ps ss) ≤ 32768 → wellFormed (textOf ps ss) ≡ true
-  unfolding wellFormed isBar
-  formed-is l = rw (le-leb (length (textOf ps ss)) 32768 l, bar-is, steps-read) (eq-eqb (length (stepText (textOf ps ss))) (7 * length ss) (ap length step-is ∙ lines-long 3 ss hs))
+  formed-is : bodyFormed (bodyOf ps ss) ≡ true
+  unfolding bodyFormed isBar
+  formed-is = rw (bar-is, steps-read) (eq-eqb (length (stepText (bodyOf ps ss))) (7 * length ss) (ap length step-is ∙ lines-long 3 ss hs))
+
+-- the table: what is read, and that the rest is the text behind it
+pub record HeadRead (h : Option (List (List ℕ))) (b : List ℕ) : Type 0 where
+  pub table : tableIn (headOf h ++ b) ≡ h
+  pub rest : body (headOf h ++ b) ≡ b
+
+module _ (b : List ℕ) where
+  no-head : hasTable b ≡ false → HeadRead none b
+  unfolding tableIn headOf
+  no-head e = record { table = rw e; rest = no-table-body b e }
+
+  module _ (hs : List (List ℕ)) (h : areLines 2 hs ≡ true) where
+    abbrev t : List ℕ
+    t = flatMap hexLine hs ++ (61 ∷ 61 ∷ 10 ∷ b)
+
+    head-lines : lines 2 t ≡ hs
+    head-lines = lines-read 2 hs (61 ∷ 61 ∷ 10 ∷ b) h (no-line 61 (61 ∷ 10 ∷ b) (unfold isDigit in refl))
+
+    bar-at : drop (5 * length (lines 2 t)) t ≡ 61 ∷ 61 ∷ 10 ∷ b
+    bar-at = ap (λ ls. drop (5 * length ls) t) head-lines ∙ drop-at (flatMap hexLine hs) (61 ∷ 61 ∷ 10 ∷ b) (5 * length hs) (lines-long 2 hs h)
+
+    has : hasTable t ≡ true
+    unfolding hasTable isBar
+    has = rw bar-at
+
+    rest-at : body t ≡ b
+    unfolding body
+    rest-at = ap (λ n. drop n t) (table-at t has) ∙ sym (drop-drop 3 (5 * length (lines 2 t)) t) ∙ ap (drop 3) bar-at
+
+    table-at-head : tableIn t ≡ some hs
+    unfolding tableIn
+    table-at-head = rw (has, head-lines)
+
+    some-head : HeadRead (some hs) b
+    unfolding headOf
+    some-head = record { table = rw append-assoc table-at-head; rest = rw append-assoc rest-at }
+
+pub head-read : (h : Option (List (List ℕ))) (b : List ℕ) → isHead h ≡ true → hasTable b ≡ false → HeadRead h b
+unfolding isHead
+head-read none b y n = no-head b n
+head-read (some hs) b y n = some-head b hs y
+
+-- the whole text
+module _ (h : Option (List (List ℕ))) (ps ss : List (List ℕ)) (hh : isHead h ≡ true) (hp : areLines 2 ps ≡ true) (hs : areLines 3 ss ≡ true) where
+  behind : drop (5 * length (lines 2 (bodyOf ps ss))) (bodyOf ps ss) ≡ 45 ∷ 45 ∷ 10 ∷ flatMap hexLine ss
+  unfolding barText planLines
+  behind = bar-is ps ss hp hs
+
+  bare : hasTable (bodyOf ps ss) ≡ false
+  unfolding hasTable isBar
+  bare = rw behind
+
+  pub text-read : HeadRead h (bodyOf ps ss)
+  text-read = head-read h (bodyOf ps ss) hh bare
+
+  pub table-read : tableIn (textOf h ps ss) ≡ h
+  unfolding textOf
+  table-read = text-read .table
+
+  body-read : body (textOf h ps ss) ≡ bodyOf ps ss
+  unfolding textOf
+  body-read = text-read .rest
+
+  pub plan-lines-read : planLines (body (textOf h ps ss)) ≡ ps
+  plan-lines-read = ap planLines body-read ∙ plan-read ps ss hp hs
+
+  pub step-lines-read : stepLines (body (textOf h ps ss)) ≡ ss
+  step-lines-read = ap stepLines body-read ∙ steps-read ps ss hp hs
+
+  pub text-formed : length (textOf h ps ss) ≤ 32768 → wellFormed (textOf h ps ss) ≡ true
+  unfolding wellFormed
+  text-formed l = rw (le-leb (length (textOf h ps ss)) 32768 l, body-read) (formed-is ps ss hp hs)

@@ -10,7 +10,7 @@ use lib.ListN.{length, getD, take, drop, length-drop, drop-of-length-le, List·g
 use lib.Seq.{drop-drop, take-all}
 use Rattle.lists.proofs.Logic.{cases, decided, and-left, and-right}
 use Rattle.text.specs.Hex.{isLine, lineBytes}
-use Rattle.text.specs.Text.{linesWithin, lines, isBar, barText, stepText, stepLines, wellFormed}
+use Rattle.text.specs.Text.{linesWithin, lines, isBar, hasTable, tableLines, bodyAt, body, barText, stepText, stepLines, bodyFormed, wellFormed}
 use Rattle.text.proofs.HexLaws.{line-long}
 
 -- a text from a place on, as the code takes it
@@ -86,27 +86,27 @@ module _ {k : ℕ} {t : List ℕ} {at n : ℕ} (h : Counted k t at n) where
           rest = omega (arith, h .rest, ap length (lines-some k (drop at t) y), ap (λ s. length (lines k s)) (drop-drop (2 * k + 1) at t));
         }
 
--- the line `--`, byte by byte
-module _ (t : List ℕ) where
-  pub bar-1 : (b : ℕ) → b ≡ getD t 0 0 → (b ≡ 45 → ⊥) → false ≡ isBar t
+-- a line of two signs c, byte by byte
+module _ (c : ℕ) (t : List ℕ) where
+  pub bar-1 : (b : ℕ) → b ≡ getD t 0 0 → (b ≡ c → ⊥) → false ≡ isBar c t
   unfolding isBar
-  bar-1 b e f = rw (ne-eqb (getD t 0 0) 45 (λ g. f (e ∙ g)))
+  bar-1 b e f = rw (ne-eqb (getD t 0 0) c (λ g. f (e ∙ g)))
 
-  pub bar-2 : (b : ℕ) → b ≡ getD t 1 0 → (b ≡ 45 → ⊥) → false ≡ isBar t
+  pub bar-2 : (b : ℕ) → b ≡ getD t 1 0 → (b ≡ c → ⊥) → false ≡ isBar c t
   unfolding isBar
-  bar-2 b e f = rw (ne-eqb (getD t 1 0) 45 (λ g. f (e ∙ g)), and-false)
+  bar-2 b e f = rw (ne-eqb (getD t 1 0) c (λ g. f (e ∙ g)), and-false)
 
-  pub bar-3 : (a b c : ℕ) → a ≡ getD t 0 0 → a ≡ 45 → b ≡ getD t 1 0 → b ≡ 45 → c ≡ getD t 2 0 → eqb c 10 ≡ isBar t
+  pub bar-3 : (a b d : ℕ) → a ≡ getD t 0 0 → a ≡ c → b ≡ getD t 1 0 → b ≡ c → d ≡ getD t 2 0 → eqb d 10 ≡ isBar c t
   unfolding isBar
-  bar-3 a b c e f g h i = rw (eq-eqb (getD t 0 0) 45 (sym e ∙ f), eq-eqb (getD t 1 0) 45 (sym g ∙ h), i)
+  bar-3 a b d e f g h i = rw (eq-eqb (getD t 0 0) c (sym e ∙ f), eq-eqb (getD t 1 0) c (sym g ∙ h), i)
 
-pub bar-long : (t : List ℕ) → isBar t ≡ true → 3 ≤ length t
-unfolding isBar
-bar-long t h = cases (decided (leb 3 (length t)))
-    (λ e. leb-true 3 (length t) e)
-    (λ e. let l : length t ≤ 2 = omega (arith, leb-false 3 (length t) e) in
-    let f = eqb-true (getD t 2 0) 10 (and-right (eqb (getD t 0 0) 45 && eqb (getD t 1 0) 45) (eqb (getD t 2 0) 10) h) in
-    absurd (omega (arith, f, List·getD-eq-default t 0 l)))
+  pub bar-long : isBar c t ≡ true → 3 ≤ length t
+  unfolding isBar
+  bar-long h = cases (decided (leb 3 (length t)))
+      (λ e. leb-true 3 (length t) e)
+      (λ e. let l : length t ≤ 2 = omega (arith, leb-false 3 (length t) e) in
+      let f = eqb-true (getD t 2 0) 10 (and-right (eqb (getD t 0 0) c && eqb (getD t 1 0) c) (eqb (getD t 2 0) 10) h) in
+      absurd (omega (arith, f, List·getD-eq-default t 0 l)))
 
 -- the lines stand in the text
 within-fit : (n k : ℕ) (t : List ℕ) → (2 * k + 1) * length (linesWithin n k t) ≤ length t
@@ -120,18 +120,52 @@ pub lines-fit : (k : ℕ) (t : List ℕ) → (2 * k + 1) * length (lines k t) �
 unfolding lines
 lines-fit k t = within-fit (length t) k t
 
+-- with a table and without one
+module _ (t : List ℕ) where
+  module _ (h : hasTable t ≡ true) where
+    pub table-at : bodyAt t ≡ 5 * length (lines 2 t) + 3
+    unfolding bodyAt
+    table-at = rw h
+
+    pub table-lines : tableLines t ≡ lines 2 t
+    unfolding tableLines
+    table-lines = rw h
+
+    pub table-room : 5 * length (lines 2 t) + 3 ≤ length t
+    unfolding hasTable
+    table-room = omega (arith, lines-fit 2 t, bar-long 61 (drop (5 * length (lines 2 t)) t) h, length-drop (5 * length (lines 2 t)) t)
+
+  module _ (h : hasTable t ≡ false) where
+    pub no-table-at : bodyAt t ≡ 0
+    unfolding bodyAt
+    no-table-at = rw h
+
+    pub no-table-lines : tableLines t ≡ []
+    unfolding tableLines
+    no-table-lines = rw h
+
+    pub no-table-body : body t ≡ t
+    unfolding body
+    no-table-body = rw no-table-at
+
+  pub body-room : bodyAt t ≤ length t
+  body-room = cases (decided (hasTable t)) (λ h. omega (arith, table-at h, table-room h)) (λ h. omega (arith, no-table-at h))
+
 -- what a well-formed text has
+module _ (b : List ℕ) (h : bodyFormed b ≡ true) where
+  pub formed-bar : isBar 45 (barText b) ≡ true
+  unfolding bodyFormed
+  formed-bar = and-left (isBar 45 (barText b)) (eqb (length (stepText b)) (7 * length (stepLines b))) h
+
+  pub formed-steps : length (stepText b) ≡ 7 * length (stepLines b)
+  unfolding bodyFormed
+  formed-steps = eqb-true _ _ (and-right (isBar 45 (barText b)) (eqb (length (stepText b)) (7 * length (stepLines b))) h)
+
 module _ (t : List ℕ) (h : wellFormed t ≡ true) where
-  front : (leb (length t) 32768 && isBar (barText t)) ≡ true
-  unfolding wellFormed
-  front = and-left (leb (length t) 32768 && isBar (barText t)) (eqb (length (stepText t)) (7 * length (stepLines t))) h
-
   pub formed-short : length t ≤ 32768
-  formed-short = leb-true (length t) 32768 (and-left (leb (length t) 32768) (isBar (barText t)) front)
-
-  pub formed-bar : isBar (barText t) ≡ true
-  formed-bar = and-right (leb (length t) 32768) (isBar (barText t)) front
-
-  pub formed-steps : length (stepText t) ≡ 7 * length (stepLines t)
   unfolding wellFormed
-  formed-steps = eqb-true _ _ (and-right (leb (length t) 32768 && isBar (barText t)) (eqb (length (stepText t)) (7 * length (stepLines t))) h)
+  formed-short = leb-true (length t) 32768 (and-left (leb (length t) 32768) (bodyFormed (body t)) h)
+
+  pub formed-body : bodyFormed (body t) ≡ true
+  unfolding wellFormed
+  formed-body = and-right (leb (length t) 32768) (bodyFormed (body t)) h

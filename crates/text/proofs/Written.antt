@@ -1,6 +1,6 @@
 -- A well-formed text is the text of the lines that are read of it. Assumes nothing.
 use mathlib.Core.Path.{_≡_, refl, sym, _∙_, ap}
-use mathlib.Core.Bool.{true, _&&_}
+use mathlib.Core.Bool.{true, false, _&&_}
 use mathlib.Core.List.{List, [], _∷_, _++_, map, flatMap, append-assoc, append-nil}
 use Prim.Native.Nat.{ℕ, zero, suc, _+_, _-_, _*_, _/_, _%_, _<_}
 use native.Mathlib.Nat.{mul-suc, mul-zero, add-comm}
@@ -16,9 +16,9 @@ use Rattle.lists.proofs.Logic.{cases, decided, and-left, and-right, and-join}
 use Rattle.lists.proofs.Below.{below-at}
 use Rattle.lists.proofs.PutLaws.{drop-turn}
 use Rattle.text.specs.Hex.{isDigit, valueOf, digitOf, digitAt, isLine, lineByte, lineBytes, hexLine}
-use Rattle.text.specs.Text.{linesWithin, lines, planLines, isBar, barText, stepText, stepLines, wellFormed, textOf, isBytes, areLines}
+use Rattle.text.specs.Text.{linesWithin, lines, isBar, hasTable, bodyAt, body, planLines, barText, stepText, stepLines, bodyFormed, wellFormed, headOf, bodyOf, textOf, tableIn, isBytes, areLines, isHead}
 use Rattle.text.proofs.HexLaws.{low-least, low-value, high-least, high-value, value-small, line-digits, line-feed, line-long}
-use Rattle.text.proofs.TextLaws.{bar-long, formed-bar, formed-steps}
+use Rattle.text.proofs.TextLaws.{bar-long, table-at, no-table-body, formed-bar, formed-steps, formed-body}
 use Rattle.text.proofs.DecodeLaws.{line-length}
 
 -- a digit is that of its value
@@ -103,31 +103,52 @@ pub lines-are : (k : ℕ) (t : List ℕ) → areLines k (lines k t) ≡ true
 unfolding lines
 lines-are k t = within-lines (length t) k t
 
-bar-is : (t : List ℕ) → isBar t ≡ true → t ≡ 45 ∷ 45 ∷ 10 ∷ drop 3 t
+bar-is : (c : ℕ) (t : List ℕ) → isBar c t ≡ true → t ≡ c ∷ c ∷ 10 ∷ drop 3 t
 unfolding isBar
-bar-is t h =
-    let l = bar-long t h in
-    let a = and-left (eqb (getD t 0 0) 45 && eqb (getD t 1 0) 45) (eqb (getD t 2 0) 10) h in
+bar-is c t h =
+    let l = bar-long c t h in
+    let a = and-left (eqb (getD t 0 0) c && eqb (getD t 1 0) c) (eqb (getD t 2 0) 10) h in
     drop-turn t 0 (omega arith)
     ∙ ap (λ s. getD t 0 0 ∷ s) (drop-turn t 1 (omega arith) ∙ ap (λ s. getD t 1 0 ∷ s) (drop-turn t 2 (omega arith)))
     ∙ rw (
-      eqb-true (getD t 0 0) 45 (and-left (eqb (getD t 0 0) 45) (eqb (getD t 1 0) 45) a),
-      eqb-true (getD t 1 0) 45 (and-right (eqb (getD t 0 0) 45) (eqb (getD t 1 0) 45) a),
-      eqb-true (getD t 2 0) 10 (and-right (eqb (getD t 0 0) 45 && eqb (getD t 1 0) 45) (eqb (getD t 2 0) 10) h),
+      eqb-true (getD t 0 0) c (and-left (eqb (getD t 0 0) c) (eqb (getD t 1 0) c) a),
+      eqb-true (getD t 1 0) c (and-right (eqb (getD t 0 0) c) (eqb (getD t 1 0) c) a),
+      eqb-true (getD t 2 0) 10 (and-right (eqb (getD t 0 0) c && eqb (getD t 1 0) c) (eqb (getD t 2 0) 10) h),
     )
 
-module _ (t : List ℕ) (h : wellFormed t ≡ true) where
-  steps-back : flatMap hexLine (stepLines t) ≡ stepText t
+-- the text behind the table
+module _ (b : List ℕ) (h : bodyFormed b ≡ true) where
+  steps-back : flatMap hexLine (stepLines b) ≡ stepText b
   unfolding stepLines
   steps-back =
-      sym (append-nil (flatMap hexLine (lines 3 (stepText t))))
-      ∙ ap (λ r. flatMap hexLine (lines 3 (stepText t)) ++ r) (sym (drop-of-length-le (stepText t) {i = 7 * length (lines 3 (stepText t))} (omega (arith, formed-steps t h))))
-      ∙ lines-back 3 (stepText t)
+      sym (append-nil (flatMap hexLine (lines 3 (stepText b))))
+      ∙ ap (λ r. flatMap hexLine (lines 3 (stepText b)) ++ r) (sym (drop-of-length-le (stepText b) {i = 7 * length (lines 3 (stepText b))} (omega (arith, formed-steps b h))))
+      ∙ lines-back 3 (stepText b)
 
-  bar-back : 45 ∷ 45 ∷ 10 ∷ stepText t ≡ barText t
+  bar-back : 45 ∷ 45 ∷ 10 ∷ stepText b ≡ barText b
   unfolding barText stepText
-  bar-back = ap (λ r. 45 ∷ 45 ∷ 10 ∷ r) (sym (drop-drop 3 (5 * length (planLines t)) t)) ∙ sym (bar-is (barText t) (formed-bar t h))
+  bar-back = ap (λ r. 45 ∷ 45 ∷ 10 ∷ r) (sym (drop-drop 3 (5 * length (planLines b)) b)) ∙ sym (bar-is 45 (barText b) (formed-bar b h))
 
-  pub text-back : textOf (planLines t) (stepLines t) ≡ t
-  unfolding textOf barText planLines
-  text-back = ap (λ r. flatMap hexLine (lines 2 t) ++ r) (rw steps-back bar-back) ∙ lines-back 2 t
+  body-back : bodyOf (planLines b) (stepLines b) ≡ b
+  unfolding bodyOf barText planLines
+  body-back = ap (λ r. flatMap hexLine (lines 2 b) ++ r) (rw steps-back bar-back) ∙ lines-back 2 b
+
+-- the table and the text behind it
+module _ (t : List ℕ) where
+  head-back : headOf (tableIn t) ++ body t ≡ t
+  head-back = cases (decided (hasTable t)) with-table without
+    where
+      with-table : hasTable t ≡ true → headOf (tableIn t) ++ body t ≡ t
+      with-table h = unfold headOf tableIn body in
+          rw (h, table-at t h, append-assoc, ← drop-drop 3 (5 * length (lines 2 t)) t, ← bar-is 61 (drop (5 * length (lines 2 t)) t) (unfold hasTable in h)) (lines-back 2 t)
+
+      without : hasTable t ≡ false → headOf (tableIn t) ++ body t ≡ t
+      without h = unfold headOf tableIn in rw h (no-table-body t h)
+
+  pub head-lines : isHead (tableIn t) ≡ true
+  unfolding isHead tableIn
+  head-lines = cases (decided (hasTable t)) (λ h. rw h (lines-are 2 t)) (λ h. rw h)
+
+  pub text-back : wellFormed t ≡ true → textOf (tableIn t) (planLines (body t)) (stepLines (body t)) ≡ t
+  unfolding textOf
+  text-back h = rw (body-back (body t) (formed-body t h)) head-back

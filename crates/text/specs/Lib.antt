@@ -1,4 +1,5 @@
--- Letters: t a text, k the bytes of a line, bs bytes, ps ss plan and step lines, b a buffer, w a place in it.
+-- Letters: t a text, b a text behind its table, or a buffer, k the bytes of a line, bs bytes, hs ps ss table, plan and step lines, h a table if
+-- there is one, w a place in a buffer.
 pub mod Hex
 pub mod Text
 pub mod Calls

@@ -6,13 +6,15 @@ ghost use Prim.Native.Nat.{_+_, _*_, _<_, _≤_};
 ghost use lib.ListN.{length};
 ghost use Rattle.lists.specs.Put.{Put};
 ghost use Rattle.text.specs.Hex.{isDigit, valueOf, digitOf, isLine, lineByte, lineBytes, hexLine};
-ghost use Rattle.text.specs.Text.{lines, isBar};
-ghost use Rattle.text.specs.Calls.{malformed, countsOf, inFront, readInto, reading, lineInto, printing};
+ghost use Rattle.text.specs.Text.{lines, isBar, bodyAt, planLines, stepLines, tableBytes};
+ghost use Rattle.text.specs.Calls.{malformed, bodyCounts, countsOf, inFront, Laid, readInto, reading, lineInto, printing};
 use plan::byte_at;
 
-// Whether a text is well-formed, and its numbers of plan lines and step lines.
+// Whether a text is well-formed, its bytes before the plan (the table's lines, five bytes each, and the line `==`; 0 without a table), and its
+// numbers of plan lines and step lines.
 pub struct Counts {
     pub ok: bool,
+    pub head: usize,
     pub plan: usize,
     pub steps: usize,
 }
@@ -77,17 +79,29 @@ fn count_lines(text: &[u8], k: usize) -> usize
     n
 }
 
-// Text begins with a line `--`.
-fn is_bar(text: &[u8]) -> bool
-    ensures { λ r. ⌜ r ≡ isBar (now (text .entry)) ⌝ }
+// Text begins with a line of two of these signs.
+fn is_bar(text: &[u8], sign: u8) -> bool
+    ensures { λ r. ⌜ r ≡ isBar sign (now (text .entry)) ⌝ }
 {
-    if byte_at(text, 0) != 45 {
+    if byte_at(text, 0) != sign {
         return false;
     }
-    if byte_at(text, 1) != 45 {
+    if byte_at(text, 1) != sign {
         return false;
     }
     byte_at(text, 2) == 10
+}
+
+// The place behind the table and its line `==`; 0 where text has no table.
+fn body_at(text: &[u8]) -> usize
+    ensures { λ r. ⌜ r ≡ bodyAt (now (text .entry)) ⌝ }
+{
+    let n = count_lines(text, 2);
+    let at = 5 * n;
+    if !is_bar(&text[at..], 61) {
+        return 0;
+    }
+    at + 3
 }
 
 fn malformed() -> Counts
@@ -95,20 +109,19 @@ fn malformed() -> Counts
 {
     Counts {
         ok: false,
+        head: 0,
         plan: 0,
         steps: 0,
     }
 }
 
-fn count(text: &[u8]) -> Counts
-    ensures { λ r. ⌜ r ≡ countsOf (now (text .entry)) ⌝ }
+// The counts of a text behind a table of so many bytes.
+fn count_body(text: &[u8], head: usize) -> Counts
+    ensures { λ r. ⌜ r ≡ bodyCounts head (now (text .entry)) ⌝ }
 {
-    if text.len() > 32768 {
-        return malformed();
-    }
     let n = count_lines(text, 2);
     let at = 5 * n;
-    if !is_bar(&text[at..]) {
+    if !is_bar(&text[at..], 45) {
         return malformed();
     }
     let from = at + 3;
@@ -118,9 +131,20 @@ fn count(text: &[u8]) -> Counts
     }
     Counts {
         ok: true,
+        head,
         plan: n,
         steps: m,
     }
+}
+
+fn count(text: &[u8]) -> Counts
+    ensures { λ r. ⌜ r ≡ countsOf (now (text .entry)) ⌝ }
+{
+    if text.len() > 32768 {
+        return malformed();
+    }
+    let head = body_at(text);
+    count_body(&text[head..], head)
 }
 
 // Byte i of the line with which text begins.
@@ -166,20 +190,42 @@ fn decode(text: &[u8], k: usize, n: usize, out: &mut [u8])
     }
 }
 
-// Reads a text: its numbers of lines, and the bytes of the plan and of the steps at the front of two buffers. A malformed text leaves both
-// buffers, and so does a buffer that is too short for its bytes, of which there are two a plan line and three a step line.
-pub fn read(text: &[u8], plan: &mut [u8], steps: &mut [u8]) -> Counts
-    ensures { λ r. ⌜ readInto (now (text .entry)) (now (plan .entry)) (now (steps .entry)) ≡ reading r (now (plan .exit)) (now (steps .exit)) ⌝ }
+// Puts the table's bytes at the front of `table`, if there is room for them; without a table leaves it.
+fn read_table(text: &[u8], head: usize, table: &mut [u8])
+    requires { ⌜ head ≡ bodyAt (now text) ⌝ }
+    ensures { λ _. ⌜ now (table .exit) ≡ inFront (tableBytes (now (text .entry))) (now (table .entry)) ⌝ }
+{
+    if head == 0 {
+        return;
+    }
+    decode(text, 2, head / 5, table);
+}
+
+// Puts the bytes of the plan and of the steps at the front of two buffers, if there is room for them.
+fn read_body(text: &[u8], n: usize, m: usize, plan: &mut [u8], steps: &mut [u8])
+    requires { ⌜ Laid (now text) n m ⌝ }
+    ensures { λ _. ⌜ now (plan .exit) ≡ inFront (flatten (planLines (now (text .entry)))) (now (plan .entry)) ⌝ }
+    ensures { λ _. ⌜ now (steps .exit) ≡ inFront (flatten (stepLines (now (text .entry)))) (now (steps .entry)) ⌝ }
+{
+    let from = 5 * n + 3;
+    decode(text, 2, n, plan);
+    decode(&text[from..], 3, m, steps);
+}
+
+// Reads a text: its counts, and the bytes of the table, of the plan and of the steps at the front of three buffers. A malformed text leaves all
+// buffers, and so does a buffer that is too short for its bytes, of which there are two a table or plan line and three a step line.
+pub fn read(text: &[u8], table: &mut [u8], plan: &mut [u8], steps: &mut [u8]) -> Counts
+    ensures { λ r. ⌜ readInto (now (text .entry)) (now (table .entry)) (now (plan .entry)) (now (steps .entry)) ≡ reading r (now (table .exit)) (now (plan .exit)) (now (steps .exit)) ⌝ }
 {
     let counts = count(text);
     if !counts.ok {
         return counts;
     }
+    let head = counts.head;
     let n = counts.plan;
     let m = counts.steps;
-    let from = 5 * n + 3;
-    decode(text, 2, n, plan);
-    decode(&text[from..], 3, m, steps);
+    read_table(text, head, table);
+    read_body(&text[head..], n, m, plan, steps);
     counts
 }
 

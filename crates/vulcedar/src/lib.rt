@@ -10,7 +10,7 @@ ghost use Rattle.guard.specs.Written.{writeOf};
 ghost use Rattle.site.specs.Step.{stepOf, hearOf};
 ghost use Rattle.central.specs.Rule.{ruleOf};
 ghost use Rattle.pass.specs.Pass.{passInto};
-ghost use Rattle.simulation.specs.Run.{simulateOf, recordInto};
+ghost use Rattle.simulation.specs.Run.{simulateOf, recordByInto, recordInto};
 ghost use Rattle.vulcedar.specs.Result.{result, ofWritten, ofNamed, ofVerdict, ofRuling};
 
 fn wide32(x: u8) -> u32
@@ -150,4 +150,19 @@ pub extern "C" fn vulcedar_central(
         central::Ruling::Forbidden => 0,
         central::Ruling::Refused(n) => packed(n, 0),
     }
+}
+
+#[no_mangle]
+pub extern "C" fn vulcedar_record_by(
+    plan: &[u8],
+    tab: &[u8],
+    state: &[u8],
+    marks: &mut [u8],
+    classes: &mut [u8],
+) -> u32
+    ensures { λ r. ⌜ r ≡ result (recordByInto (now (plan .entry)) (now (tab .entry)) (now (state .entry)) (now (marks .entry)) (now (classes .entry)) .number) 0 0 ⌝ }
+    ensures { λ r. ⌜ now (marks .exit) ≡ recordByInto (now (plan .entry)) (now (tab .entry)) (now (state .entry)) (now (marks .entry)) (now (classes .entry)) .marks ⌝ }
+    ensures { λ r. ⌜ now (classes .exit) ≡ recordByInto (now (plan .entry)) (now (tab .entry)) (now (state .entry)) (now (marks .entry)) (now (classes .entry)) .classes ⌝ }
+{
+    packed(simulation::record_by(plan, tab, state, marks, classes), 0)
 }

@@ -10,19 +10,19 @@ use Rattle.script.proofs.put_record.Statement.{statement}
 use Rattle.script.proofs.put_record.Tie as tie
 
 few : (c : tie.After-node-buffer2) → c .before .before .node-count .result ≤ 160
-few c = omega (arith, c .before .before .node-count .ensures, plan-few _ (c .before .before .before .before .before .before .pre .0))
+few c = omega (arith, c .before .before .node-count .ensures, plan-few _ (c .before .before .before .before .before .before .before .pre .0 .1))
 
-module _ (c : tie.After-record) where
+module _ (c : tie.After-record-by) where
   abbrev s : tie.Start
-  s = c .before .before .before .before .before .before .before .before .before
+  s = c .before .before .before .before .before .before .before .before .before .before
 
   abbrev d : tie.After-node-buffer2
   d = c .before .before .before
 
-  told : RecordTold (s .args .plan .now) (s .args .state .now) (d .before .before .node-count .result) (d .before .node-buffer .result) (d .node-buffer2 .result)
-      (c .«record» .last .1 .1 .0) (c .«record» .last .1 .1 .1 .0)
+  told : RecordTold (s .args .plan .now) (s .args .tab .now) (s .args .state .now) (d .before .before .node-count .result) (d .before .node-buffer .result) (d .node-buffer2 .result)
+      (c .record-by .last .1 .1 .1 .0) (c .record-by .last .1 .1 .1 .1 .0)
   told =
-      record-told (s .args .plan .now) (s .args .state .now) (s .pre .0) (s .pre .1 .0) _ (d .before .before .node-count .ensures) _ _ (d .before .node-buffer .ensures) (d .node-buffer2 .ensures) _ _ _ (c .«record» .ensures)
+      record-told (s .args .plan .now) (s .args .tab .now) (s .args .state .now) (s .pre .0 .0) (s .pre .0 .1) (s .pre .1 .0) _ (d .before .before .node-count .ensures) _ _ (d .before .node-buffer .ensures) (d .node-buffer2 .ensures) _ _ _ (c .record-by .ensures)
 
 node-count-requires : tie.Need-node-count-requires
 node-count-requires c κs = search needs
@@ -36,17 +36,17 @@ node-buffer-requires-2 c κs = search needs
 array-borrow-prefix-marks : tie.Need-array-borrow-prefix-marks
 array-borrow-prefix-marks c = omega (arith, few c)
 
-slice-aggregate-record : tie.Need-slice-aggregate-record
-slice-aggregate-record c = part-length _ _ (omega (arith, few (c .before)))
+slice-aggregate-record-by : tie.Need-slice-aggregate-record-by
+slice-aggregate-record-by c = part-length _ _ (omega (arith, few (c .before)))
 
 array-borrow-prefix-classes : tie.Need-array-borrow-prefix-classes
 array-borrow-prefix-classes c = omega (arith, few (c .before))
 
-slice-aggregate-record-2 : tie.Need-slice-aggregate-record-2
-slice-aggregate-record-2 c = part-length _ _ (omega (arith, few (c .before .before)))
+slice-aggregate-record-by-2 : tie.Need-slice-aggregate-record-by-2
+slice-aggregate-record-by-2 c = part-length _ _ (omega (arith, few (c .before .before)))
 
-record-requires : tie.Need-record-requires
-record-requires c κs = search needs
+record-by-requires : tie.Need-record-by-requires
+record-by-requires c κs = search needs
 
 array-share-prefix-marks : tie.Need-array-share-prefix-marks
 array-share-prefix-marks c = back-room (told (c .before .before) .marks-back)
@@ -61,7 +61,7 @@ slice-aggregate-put-nodes-2 : tie.Need-slice-aggregate-put-nodes-2
 slice-aggregate-put-nodes-2 c = back-length (told (c .before .before .before .before) .classes-back)
 
 put-nodes-requires : tie.Need-put-nodes-requires
-put-nodes-requires c κs = let f = plan-few _ (s (c .before .before .before .before .before) .pre .0) in (f, omega (arith, f))
+put-nodes-requires c κs = let f = plan-few _ (s (c .before .before .before .before .before) .pre .0 .1) in (f, omega (arith, f))
 
 same-length : tie.Need-same-length
 same-length c = search needs
@@ -79,10 +79,10 @@ put-record-spec =
     node-buffer-requires
     node-buffer-requires-2
     array-borrow-prefix-marks
-    slice-aggregate-record
+    slice-aggregate-record-by
     array-borrow-prefix-classes
-    slice-aggregate-record-2
-    record-requires
+    slice-aggregate-record-by-2
+    record-by-requires
     array-share-prefix-marks
     slice-aggregate-put-nodes
     array-share-prefix-classes

@@ -10,11 +10,11 @@ use Rattle.script.proofs.put_simulation.Statement.{statement}
 use Rattle.script.proofs.put_simulation.Tie as tie
 
 cells : (c : tie.After-node-count) → c .node-count .result * c .node-count .result ≤ 25600
-cells c = cells-few _ (c .before .before .before .before .pre .0) _ (c .node-count .ensures)
+cells c = cells-few _ (c .before .before .before .before .before .pre .1 .0) _ (c .node-count .ensures)
 
 module _ (c : tie.After-run) where
   abbrev s : tie.Start
-  s = c .before .before .before .before .before .before .before .before .before
+  s = c .before .before .before .before .before .before .before .before .before .before
 
   abbrev d : tie.After-number-buffer
   d = c .before .before .before
@@ -22,8 +22,8 @@ module _ (c : tie.After-run) where
   told : RunTold (s .args .plan .now) (s .args .steps .now) (d .before .before .node-count .result) (d .before .fresh-state .result) (d .number-buffer .result)
       (c .run .result) (c .run .last .1 .1 .0) (c .run .last .1 .1 .1 .0)
   told =
-      run-told (s .args .plan .now) (s .pre .0) _ (d .before .before .node-count .ensures) _ (d .before .fresh-state .ensures) (s .args .steps .now) _ (d .number-buffer .ensures)
-      (s .pre .1 .0 .0) (s .pre .1 .0 .1) (c .run .ensures) (c .run .kept .1 .1 .0) (c .run .kept .1 .1 .1 .0)
+      run-told (s .args .plan .now) (s .pre .1 .0) _ (d .before .before .node-count .ensures) _ (d .before .fresh-state .ensures) (s .args .steps .now) _ (d .number-buffer .ensures)
+      (s .pre .1 .1 .0 .0) (s .pre .1 .1 .0 .1) (c .run .ensures) (c .run .kept .1 .1 .0) (c .run .kept .1 .1 .1 .0)
 
 node-count-requires : tie.Need-node-count-requires
 node-count-requires c κs = search needs
@@ -59,7 +59,7 @@ same-length : tie.Need-same-length
 same-length c = search needs
 
 returns : tie.Need-returns
-returns c = refused-put (told (c .before .before .before .before .before .before .before)) (λ z. omega arith) (c .before .before .put-number .ensures)
+returns c = refused-put (told (c .before .before .before .before .before .before .before)) _ (λ z. omega arith) (c .before .before .put-number .ensures)
 
 array-share-prefix-numbers : tie.Need-array-share-prefix-numbers
 array-share-prefix-numbers c = back-room (told (c .before .before .before) .numbers-back)
@@ -68,7 +68,7 @@ slice-aggregate-put-numbers : tie.Need-slice-aggregate-put-numbers
 slice-aggregate-put-numbers c = back-length (told (c .before .before .before .before) .numbers-back)
 
 put-numbers-requires : tie.Need-put-numbers-requires
-put-numbers-requires c κs = let r = c .before .before .before .before .before in omega (arith, back-length (told r .numbers-back), s r .pre .1 .0 .0, s r .pre .1 .1)
+put-numbers-requires c κs = let r = c .before .before .before .before .before in omega (arith, back-length (told r .numbers-back), s r .pre .1 .1 .0 .0, s r .pre .1 .1 .1)
 
 array-share-prefix-state : tie.Need-array-share-prefix-state
 array-share-prefix-state c = back-room (told (c .before .before .before .before .before .before .before .before) .state-back)
@@ -81,10 +81,10 @@ put-record-requires c κs =
     let i = c .before .before .before .before .before .before .before in
     let r = i .before .before .before in
     let q = c .before .before .before .before .put-numbers .ensures in (
-      told-accepted (told r) (omega arith),
+      (s r .pre .0, told-accepted (told r) (omega arith)),
       (
         state-long (told r),
-        omega (arith, numbers-place (told r) q, put-length q, s r .pre .1 .0 .0, s r .pre .1 .1),
+        omega (arith, numbers-place (told r) q, put-length q, s r .pre .1 .1 .0 .0, s r .pre .1 .1 .1),
       ),
     )
 
@@ -94,7 +94,7 @@ same-length-2 c = search needs
 returns-2 : tie.Need-returns-2
 returns-2 c =
     let i = c .before .before .before .before .before .before .before .before .before .before in
-    accepted-put (told (i .before .before .before)) (omega arith) (c .before .before .before .before .before .before .before .put-numbers .ensures) (c .before .before .put-record .ensures)
+    accepted-put (told (i .before .before .before)) (omega arith) _ (c .before .before .before .before .before .before .before .put-numbers .ensures) (c .before .before .put-record .ensures)
 
 pub put-simulation-spec : {M : Type 1} → statement M
 put-simulation-spec =

@@ -1,48 +1,18 @@
--- The tests, then the marks and the classes by them. Assumes nothing.
-use mathlib.Core.Path.{_≡_, sym, _∙_}
-use Rattle.simulation.specs.Run.{recordNumber}
-use Rattle.simulation.proofs.RecordLaws.{record-told, record-refused, record-lengths, record-done}
-use Prim.Native.Nat.{ℕ, _*_, _≤_}
-use lib.ListN.{length}
-use native.Mathlib.Omega.{arith}
+-- The record by the common table. Assumes nothing.
+use mathlib.Core.Path.{_≡_, sym, ap, _∙_}
 use borrow.Author.Needs.{needs}
+use Rattle.simulation.specs.Run.{recordByInto}
 use Rattle.simulation.proofs.record.Statement.{statement}
 use Rattle.simulation.proofs.record.Tie as tie
 
-told : (c : tie.After-fit) → let s = c .before .before .before .before .before .before .before in
-    c .fit .result ≡ recordNumber (s .args .plan .now) (s .args .state .now) (s .args .marks .now) (s .args .classes .now)
-told c = record-told _ _ _ _ _ (c .before .before .node-count .ensures) _ (c .before .record-fits .ensures) _ (c .fit .ensures)
+common-table-requires : tie.Need-common-table-requires
+common-table-requires c κs = search needs
 
-module _ (c : tie.Else1) where
-  abbrev s : tie.Start
-  s = c .before .before .before .before .before .before .before .before
+slice-aggregate-record-by : tie.Need-slice-aggregate-record-by
+slice-aggregate-record-by c = search needs
 
-  none : recordNumber (s .args .plan .now) (s .args .state .now) (s .args .marks .now) (s .args .classes .now) ≡ 0
-  none = sym (told (c .before)) ∙ c .if1 .left
-
-  abbrev n : ℕ
-  n = c .before .before .before .node-count .result
-
-  lengths : (n ≤ 160) × (length (s .args .state .now) ≡ n * n) × (length (s .args .marks .now) ≡ n) × (length (s .args .classes .now) ≡ n)
-  lengths = record-lengths (s .args .plan .now) (s .args .state .now) (s .args .marks .now) (s .args .classes .now) none n (c .before .before .before .node-count .ensures)
-
-node-count-requires : tie.Need-node-count-requires
-node-count-requires c κs = search needs
-
-record-fits-requires : tie.Need-record-fits-requires
-record-fits-requires c κs = search needs
-
-fit-requires : tie.Need-fit-requires
-fit-requires c κs = search needs
-
-returns : tie.Need-returns
-returns c = record-refused _ _ _ _ _ (told (c .before)) (c .if1 .taken)
-
-write-marks-requires : tie.Need-write-marks-requires
-write-marks-requires c κs = let l = lengths (c .before) in (l .0, l .1, l .2)
-
-write-classes-requires : tie.Need-write-classes-requires
-write-classes-requires c κs = let l = lengths (c .before .before .before .before .before .before) in let e = c .before .before .before .before .before .before .before .before .before .node-count .ensures in (omega arith, l .3 ∙ e)
+record-by-requires : tie.Need-record-by-requires
+record-by-requires c κs = search needs
 
 same-length : tie.Need-same-length
 same-length c = search needs
@@ -50,19 +20,18 @@ same-length c = search needs
 same-length-2 : tie.Need-same-length-2
 same-length-2 c = search needs
 
-returns-2 : tie.Need-returns-2
-returns-2 c = record-done _ _ _ _ (none (c .before .before .before .before .before .before .before .before .before)) _ (c .before .before .before .before .before .before .before .before .before .before .before .before .node-count .ensures) _ _ (c .before .before .before .before .before .before .before .write-marks .ensures) (c .before .before .write-classes .ensures)
+returns : tie.Need-returns
+returns c =
+    let s = c .before .before .before .before .before .before .before .before .before .before .before .before .before .args in
+    ap (λ tab. recordByInto (s .plan .now) tab (s .state .now) (s .marks .now) (s .classes .now)) (sym (c .before .before .before .before .before .before .before .before .common-table .ensures)) ∙ c .before .before .before .before .record-by .ensures
 
 pub record-spec : {M : Type 1} → statement M
 record-spec =
     tie.close
     (tie.spec
-    node-count-requires
-    record-fits-requires
-    fit-requires
-    returns
-    write-marks-requires
-    write-classes-requires
+    common-table-requires
+    slice-aggregate-record-by
+    record-by-requires
     same-length
     same-length-2
-    returns-2)
+    returns)

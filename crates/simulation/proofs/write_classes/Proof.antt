@@ -10,19 +10,19 @@ use Rattle.simulation.proofs.write_classes.Statement.{statement}
 use Rattle.simulation.proofs.write_classes.Tie as tie
 
 abbrev Inv-loop : tie.InvT-loop
-Inv-loop plan marks classes₀ n v₀ classes v = Filling (class plan marks) (size plan) classes v
+Inv-loop plan tab marks classes₀ n v₀ classes v = Filling (class plan tab marks) (size plan) classes v
 
 abbrev μ-loop : tie.MeasureT-loop
-μ-loop plan marks classes₀ n v₀ classes v = n - v
+μ-loop plan tab marks classes₀ n v₀ classes v = n - v
 
 node-count-requires : tie.Need-node-count-requires Inv-loop μ-loop
 node-count-requires c κs = search needs
 
 loop-holds : tie.Need-loop-holds Inv-loop μ-loop
-loop-holds c = fill-none _ _ _ (c .before .before .before .before .pre .1)
+loop-holds c = fill-none _ _ _ (c .before .before .before .before .before .pre .1)
 
 cast-class : tie.Need-cast-class Inv-loop μ-loop
-cast-class c = omega (arith, c .before .before .before .before .before .before .pre .0, c .before .before .node-count .ensures)
+cast-class c = omega (arith, c .before .before .before .before .before .before .before .pre .0, c .before .before .node-count .ensures)
 
 class-requires : tie.Need-class-requires Inv-loop μ-loop
 class-requires c κs = search needs
@@ -40,7 +40,7 @@ loop-again : tie.Need-loop-again Inv-loop μ-loop
 loop-again c = fill-turn _ _ _ _ _ (c .before .before .loop .inv) (omega (arith, c .before .before .before .node-count .ensures)) (c .class .ensures)
 
 same-length : tie.Need-same-length Inv-loop μ-loop
-same-length c = c .before .loop .inv .long ∙ sym (c .before .before .before .before .before .before .pre .1)
+same-length c = c .before .loop .inv .long ∙ sym (c .before .before .before .before .before .before .before .pre .1)
 
 returns : tie.Need-returns Inv-loop μ-loop
 returns c = fill-done _ _ _ _ (c .before .loop .inv) (omega (arith, c .before .before .node-count .ensures))

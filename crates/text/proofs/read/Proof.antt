@@ -1,9 +1,10 @@
--- The counts, and the lines that they count. Assumes nothing.
-use Prim.Native.Nat.{_+_, _*_, _≤_}
+-- The counts, then the table and the lines behind it. Assumes nothing.
+use Prim.Native.Nat.{_≤_}
 use native.Mathlib.Omega.{arith}
 use lib.ListN.{length}
+use Rattle.text.proofs.TextLaws.{body-room}
+use Rattle.text.proofs.CallLaws.{read-not, told-head, told-laid, read-done}
 use borrow.Author.Needs.{needs}
-use Rattle.text.proofs.CallLaws.{read-not, told-plan, told-steps, told-room, read-done}
 use Rattle.text.proofs.read.Statement.{statement}
 use Rattle.text.proofs.read.Tie as tie
 
@@ -11,33 +12,26 @@ count-requires : tie.Need-count-requires
 count-requires c κs = search needs
 
 returns : tie.Need-returns
-returns c = read-not _ _ (c .before .before .count .ensures) _ _ (c .if1 .taken)
+returns c = read-not _ _ (c .before .before .count .ensures) _ _ _ (c .if1 .taken)
 
--- the plan's lines and the line `--` end in the text
-room : (c : tie.Else1) → 5 * c .before .before .count .result .plan + 3 ≤ length (c .before .before .before .before .before .before .args .text .now)
-room c = told-room _ _ (c .before .before .count .ensures) (c .if1 .left)
+-- the table ends in the text
+room : (c : tie.Else1) → c .before .before .count .result .head ≤ length (c .before .before .before .before .before .before .before .args .text .now)
+room c = omega (arith, told-head _ _ (c .before .before .count .ensures) (c .if1 .left), body-room (c .before .before .before .before .before .before .before .args .text .now))
 
-mul-from : tie.Need-mul-from
-mul-from c = omega (arith, room c)
+read-table-requires : tie.Need-read-table-requires
+read-table-requires c κs = told-head _ _ (c .before .before .before .count .ensures) (c .before .if1 .left)
 
-add-from : tie.Need-add-from
-add-from c = omega (arith, room c)
+sub-read-body : tie.Need-sub-read-body
+sub-read-body c = omega (arith, room (c .before .before .before .before))
 
-decode-requires : tie.Need-decode-requires
-decode-requires c κs = (search needs, told-plan _ _ (c .before .before .before .count .ensures) (c .before .if1 .left))
+part-read-body-start : tie.Need-part-read-body-start
+part-read-body-start c = omega (arith, room (c .before .before .before .before))
 
-sub-decode : tie.Need-sub-decode
-sub-decode c = omega (arith, room (c .before .before .before .before))
+part-read-body-end : tie.Need-part-read-body-end
+part-read-body-end c = search needs
 
-part-decode-start : tie.Need-part-decode-start
-part-decode-start c = omega (arith, room (c .before .before .before .before))
-
-part-decode-end : tie.Need-part-decode-end
-part-decode-end c = search needs
-
-decode-requires-2 : tie.Need-decode-requires-2
-decode-requires-2 c κs =
-    (search needs, told-steps _ _ (c .before .before .before .before .before .before .before .before .count .ensures) (c .before .before .before .before .before .before .if1 .left))
+read-body-requires : tie.Need-read-body-requires
+read-body-requires c κs = told-laid _ _ (c .before .before .before .before .before .before .before .before .before .count .ensures) (c .before .before .before .before .before .before .before .if1 .left)
 
 same-length : tie.Need-same-length
 same-length c = search needs
@@ -45,10 +39,13 @@ same-length c = search needs
 same-length-2 : tie.Need-same-length-2
 same-length-2 c = search needs
 
+same-length-3 : tie.Need-same-length-3
+same-length-3 c = search needs
+
 returns-2 : tie.Need-returns-2
 returns-2 c =
-    let d = c .before .before .before .before .before .before .before .before .before in
-    read-done _ _ (d .before .before .count .ensures) (d .if1 .left) _ _ (c .before .before .before .before .before .before .before .decode .ensures) (c .before .before .decode2 .ensures)
+    let d = c .before .before .before .before .before .before .before .before .before .before .before .before in
+    read-done _ _ (d .before .before .count .ensures) (d .if1 .left) _ _ _ (c .before .before .before .before .before .before .before .before .before .before .read-table .ensures) (c .before .before .before .before .read-body .ensures .0) (c .before .before .before .before .read-body .ensures .1)
 
 pub read-spec : {M : Type 1} → statement M
 read-spec =
@@ -56,13 +53,12 @@ read-spec =
     (tie.spec
     count-requires
     returns
-    mul-from
-    add-from
-    decode-requires
-    sub-decode
-    part-decode-start
-    part-decode-end
-    decode-requires-2
+    read-table-requires
+    sub-read-body
+    part-read-body-start
+    part-read-body-end
+    read-body-requires
     same-length
     same-length-2
+    same-length-3
     returns-2)

@@ -1,0 +1,12 @@
+-- The definition's bytes. Assumes nothing.
+use mathlib.Core.Path.{refl}
+use Rattle.pass.specs.Record.{commonTable}
+use Rattle.pass.proofs.common_table.Statement.{statement}
+use Rattle.pass.proofs.common_table.Tie as tie
+
+returns : tie.Need-returns
+unfolding commonTable
+returns c = refl
+
+pub common-table-spec : {M : Type 1} → statement M
+common-table-spec = tie.close (tie.spec returns)
