@@ -4,11 +4,23 @@
 use crate::fixture::{Fixture, PlacedStep};
 use differential::Implementation;
 use differential::driver::Step;
+use differential::tables::USUAL;
 use std::hint::black_box;
 
 /// The measured functions.
-pub const NAMES: [&str; 10] =
-    ["check", "rewrite", "guard", "rule", "step", "hear", "pass", "simulate", "record", "central"];
+pub const NAMES: [&str; 11] = [
+    "check",
+    "rewrite",
+    "guard",
+    "rule",
+    "step",
+    "hear",
+    "pass",
+    "simulate",
+    "record",
+    "record_by",
+    "central",
+];
 
 /// How often functions without events are called in a round.
 const CALLS: usize = 100;
@@ -40,7 +52,7 @@ impl Work {
     /// How many calls a round has.
     pub fn calls(&self) -> usize {
         match self.function {
-            "check" | "rewrite" | "pass" | "record" => CALLS,
+            "check" | "rewrite" | "pass" | "record" | "record_by" => CALLS,
             "simulate" => self.fixture.steps.len(),
             _ => self.fixture.events.len(),
         }
@@ -60,6 +72,11 @@ impl Work {
             "record" => self.repeat(|work| {
                 let fixture = &work.fixture;
                 subject.record(black_box(&fixture.plan), &fixture.state, &mut work.out, &mut work.more)
+            }),
+            "record_by" => self.repeat(|work| {
+                let fixture = &work.fixture;
+                let plan = black_box(&fixture.plan);
+                subject.record_by(plan, &USUAL, &fixture.state, &mut work.out, &mut work.more)
             }),
             "guard" => self.guards(subject),
             "rule" => self.rules(subject),
