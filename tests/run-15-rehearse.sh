@@ -1,5 +1,5 @@
 #!/usr/bin/env bash
-# The program rehearse from outside: the examples (a captioning day, an and-block that ends early), the text limit, and input that is no text.
+# The program rehearse from outside: the examples (a captioning day, an and-block that ends early, a filing table of the house), the text limit, and input that is no text.
 set -euo pipefail
 cd "$(dirname "$0")/.."
 rehearse=target/bin/rehearse
@@ -7,7 +7,7 @@ rehearse=target/bin/rehearse
 work=$(mktemp -d)
 trap 'rm -rf "$work"' EXIT
 
-for example in captioning-day early-end; do
+for example in captioning-day early-end house-table; do
   "$rehearse" < "examples/$example.txt" | diff "examples/$example.out" -
 done
 
@@ -26,6 +26,13 @@ done
 [ "$(printf '01ff\n' | "$rehearse")" = 0f ]
 [ "$(printf -- '--\n' | "$rehearse")" = 01 ]
 [ "$(printf '09ff\n--\n0100ff\n' | "$rehearse")" = 02 ]
+
+# a table before the plan: refused (21), in the wrong place, twice
+[ "$(printf '==\n01ff\n--\n' | "$rehearse")" = 15 ]
+[ "$(printf '0000\n==\n09ff\n--\n' | "$rehearse")" = 15 ]
+[ "$(printf '01ff\n--\n==\n' | "$rehearse")" = 0f ]
+[ "$(printf '==\n==\n01ff\n--\n' | "$rehearse")" = 0f ]
+
 head -c 100000 /dev/urandom > "$work/noise"
 [ "$("$rehearse" < "$work/noise")" = 0f ]
 echo "rehearse: the examples and the limits are as stated"

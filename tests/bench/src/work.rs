@@ -4,11 +4,24 @@
 use crate::fixture::{Fixture, PlacedStep};
 use differential::Implementation;
 use differential::driver::Step;
+use differential::tables::USUAL;
 use std::hint::black_box;
 
 /// The measured functions.
-pub const NAMES: [&str; 11] =
-    ["check", "depths", "rewrite", "guard", "rule", "step", "hear", "pass", "simulate", "record", "central"];
+pub const NAMES: [&str; 12] = [
+    "check",
+    "depths",
+    "rewrite",
+    "guard",
+    "rule",
+    "step",
+    "hear",
+    "pass",
+    "simulate",
+    "record",
+    "record_by",
+    "central",
+];
 
 /// One key typed in a plan: a byte changes, and the plan is checked with its
 /// depths. Every byte of the plan is changed once, to each of two others.
@@ -44,7 +57,7 @@ impl Work {
     /// How many calls a round has.
     pub fn calls(&self) -> usize {
         match self.function {
-            "check" | "depths" | "rewrite" | "pass" | "record" => CALLS,
+            "check" | "depths" | "rewrite" | "pass" | "record" | "record_by" => CALLS,
             KEY => 2 * self.fixture.plan.len(),
             "simulate" => self.fixture.steps.len(),
             _ => self.fixture.events.len(),
@@ -69,6 +82,11 @@ impl Work {
             "record" => self.repeat(|work| {
                 let fixture = &work.fixture;
                 subject.record(black_box(&fixture.plan), &fixture.state, &mut work.out, &mut work.more)
+            }),
+            "record_by" => self.repeat(|work| {
+                let fixture = &work.fixture;
+                let plan = black_box(&fixture.plan);
+                subject.record_by(plan, &USUAL, &fixture.state, &mut work.out, &mut work.more)
             }),
             "guard" => self.guards(subject),
             "rule" => self.rules(subject),

@@ -50,6 +50,17 @@ impl Implementation for Archive {
         vulcedar::record(plan, state, marks, classes)
     }
 
+    fn record_by(
+        &mut self,
+        plan: &[u8],
+        table: &[u8],
+        state: &[u8],
+        marks: &mut [u8],
+        classes: &mut [u8],
+    ) -> u32 {
+        vulcedar::record_by(plan, table, state, marks, classes)
+    }
+
     fn central(&mut self, plan: &[u8], code: u32, node: u32, marks: &mut [u8], notes: &mut [u8]) -> u32 {
         vulcedar::central(plan, code, node, marks, notes)
     }

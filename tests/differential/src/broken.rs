@@ -4,6 +4,7 @@
 use crate::codes::*;
 use crate::driver::Tree;
 use crate::implementation::{Implementation, Reference};
+use crate::tables;
 
 /// A mistake: those the document warns of, its worthless versions, and slips
 /// at the borders.
@@ -101,6 +102,32 @@ pub enum Mistake {
     PickedCommitHasUsualRule,
     /// The rule of a waiting and is that of an and.
     WaitingAndHasRuleOfAnd,
+    /// A table handed in is checked and then not used.
+    TableIgnored,
+    /// A record without a table goes by the last one handed in.
+    TableStays,
+    /// A table may have any class.
+    TableWithAnyClass,
+    /// A table may file what has not begun.
+    TableFilesNothing,
+    /// A table's marks may be in any order.
+    TableInAnyOrder,
+    /// What stands behind a table's twelve bytes is overlooked.
+    LongerTable,
+    /// The plan is checked before the table.
+    PlanBeforeTable,
+    /// By a table of the house, blocks are filed as tasks are.
+    TableFilesBlocks,
+    /// A table before the plan is read and not used.
+    TextTableIgnored,
+    /// An empty table before the plan is as none.
+    TextEmptyTable,
+    /// Of two tables before the plan the second counts.
+    TextTwoTables,
+    /// A refused plan is reported before a refused table.
+    TextPlanBeforeTable,
+    /// A refused table is reported before the rest of the text is read.
+    TextTableFirst,
     /// One level more than there may be.
     OneLevelMore,
     /// Parents are looked at before kinds.
@@ -117,7 +144,7 @@ pub enum Mistake {
 
 impl Mistake {
     /// All mistakes; the first is number 1.
-    pub const ALL: [Mistake; 52] = [
+    pub const ALL: [Mistake; 65] = [
         Mistake::CommitUnlessAbortHeard,
         Mistake::PickAtTheChild,
         Mistake::TurnedDownStillRuns,
@@ -164,6 +191,19 @@ impl Mistake {
         Mistake::OfferRuleByParent,
         Mistake::PickedCommitHasUsualRule,
         Mistake::WaitingAndHasRuleOfAnd,
+        Mistake::TableIgnored,
+        Mistake::TableStays,
+        Mistake::TableWithAnyClass,
+        Mistake::TableFilesNothing,
+        Mistake::TableInAnyOrder,
+        Mistake::LongerTable,
+        Mistake::PlanBeforeTable,
+        Mistake::TableFilesBlocks,
+        Mistake::TextTableIgnored,
+        Mistake::TextEmptyTable,
+        Mistake::TextTwoTables,
+        Mistake::TextPlanBeforeTable,
+        Mistake::TextTableFirst,
         Mistake::OneLevelMore,
         Mistake::ParentsBeforeKinds,
         Mistake::DepthsFromZero,
@@ -178,12 +218,13 @@ pub struct Broken {
     mistake: Mistake,
     honest: Reference,
     has_passed: bool,
+    last_table: [u8; 12],
 }
 
 impl Broken {
     /// A copy with this mistake.
     pub fn new(mistake: Mistake) -> Broken {
-        Broken { mistake, honest: Reference, has_passed: false }
+        Broken { mistake, honest: Reference, has_passed: false, last_table: tables::USUAL }
     }
 
     fn cut(&self, number: u32) -> u32 {
@@ -229,6 +270,25 @@ impl Broken {
             Mistake::WaitingAndFailsAtOnce => with_kind(plan, WAITING_AND, AND),
             _ => plan.to_vec(),
         }
+    }
+
+    /// What the mistake makes of a table before it is checked.
+    fn misread_table(&self, table: &[u8]) -> Vec<u8> {
+        let mut table = table.to_vec();
+        match self.mistake {
+            Mistake::TableWithAnyClass => {
+                table.iter_mut().skip(3).step_by(2).for_each(|class| *class &= 3);
+            }
+            Mistake::TableFilesNothing if table.len() > 1 && table[1] <= 3 => table[1] = 0,
+            Mistake::TableInAnyOrder if table.len() == 12 => {
+                let mut frames: Vec<[u8; 2]> = table.as_chunks().0.to_vec();
+                frames.sort_by_key(|frame| frame[0]);
+                table = frames.concat();
+            }
+            Mistake::LongerTable => table.truncate(12),
+            _ => {}
+        }
+        table
     }
 
     /// What the mistake makes of a row before it decides.
@@ -475,7 +535,11 @@ impl Implementation for Broken {
     }
 
     fn record(&mut self, plan: &[u8], state: &[u8], marks: &mut [u8], classes: &mut [u8]) -> u32 {
-        let result = self.honest.record(plan, state, marks, classes);
+        let table = self.last_table;
+        let result = match self.mistake {
+            Mistake::TableStays => self.honest.record_by(plan, &table, state, marks, classes),
+            _ => self.honest.record(plan, state, marks, classes),
+        };
         if result != 0 {
             return result;
         }
@@ -486,6 +550,34 @@ impl Implementation for Broken {
             Mistake::BlocksAreFiled => {
                 let filed = [0, 3, 3, 1, 2, 2];
                 classes.iter_mut().zip(marks).for_each(|(class, mark)| *class = filed[usize::from(*mark)]);
+            }
+            _ => {}
+        }
+        result
+    }
+
+    fn record_by(
+        &mut self,
+        plan: &[u8],
+        table: &[u8],
+        state: &[u8],
+        marks: &mut [u8],
+        classes: &mut [u8],
+    ) -> u32 {
+        let seen = self.misread_table(table);
+        let result = match self.mistake {
+            Mistake::PlanBeforeTable if self.honest.check(plan) != 0 => self.honest.check(plan),
+            _ => self.honest.record_by(plan, &seen, state, marks, classes),
+        };
+        if result != 0 {
+            return result;
+        }
+        let class = |mark: u8| seen[2 * usize::from(mark) + 1];
+        match self.mistake {
+            Mistake::TableStays => self.last_table.copy_from_slice(&seen),
+            Mistake::TableIgnored => return self.honest.record(plan, state, marks, classes),
+            Mistake::TableFilesBlocks => {
+                classes.iter_mut().zip(marks).for_each(|(filed, mark)| *filed = class(*mark));
             }
             _ => {}
         }
@@ -518,6 +610,11 @@ impl Implementation for Broken {
                 reference::rehearse(&without)
             }
             Mistake::PlanBeforeText => plan_before_text(text),
+            Mistake::TextEmptyTable => reference::rehearse(text.strip_prefix(b"==\n").unwrap_or(text)),
+            Mistake::TextTwoTables => second_table(text),
+            Mistake::TextTableIgnored | Mistake::TextPlanBeforeTable | Mistake::TextTableFirst => {
+                without_table(mistake, text)
+            }
             _ => reference::rehearse(text),
         };
         texts.iter().map(one).collect()
@@ -538,6 +635,47 @@ fn plan_before_text(text: &[u8]) -> Vec<u8> {
     match first {
         Some(output) if output.len() == 3 && output < b"07".to_vec() => output,
         _ => reference::rehearse(text),
+    }
+}
+
+/// A text's table with the line that closes it, and the rest.
+fn split_table(text: &[u8]) -> Option<(&[u8], &[u8])> {
+    let mut at = 0;
+    for line in text.split_inclusive(|&byte| byte == b'\n') {
+        at += line.len();
+        match line {
+            b"--\n" => return None,
+            b"==\n" => return Some(text.split_at(at)),
+            _ => {}
+        }
+    }
+    None
+}
+
+/// Drops the first of two tables.
+fn second_table(text: &[u8]) -> Vec<u8> {
+    match split_table(text) {
+        Some((_, rest)) if split_table(rest).is_some() => reference::rehearse(rest),
+        _ => reference::rehearse(text),
+    }
+}
+
+/// What a text leads to if its table counts too little, or too much.
+fn without_table(mistake: Mistake, text: &[u8]) -> Vec<u8> {
+    let honest = reference::rehearse(text);
+    let Some((table, rest)) = split_table(text) else {
+        return honest;
+    };
+    let is_refused = honest == b"15\n";
+    let by_rest = reference::rehearse(rest);
+    match mistake {
+        Mistake::TextTableIgnored if honest.len() > 3 => by_rest,
+        Mistake::TextPlanBeforeTable if is_refused && by_rest.len() == 3 => by_rest,
+        Mistake::TextTableFirst => {
+            let alone = reference::rehearse(&[table, b"01ff\n--\n"].concat());
+            if alone == b"15\n" { alone } else { honest }
+        }
+        _ => honest,
     }
 }
 

@@ -6,6 +6,7 @@ use crate::driver::{STRANGE, Tree};
 use crate::implementation::Implementation;
 use crate::plans;
 use crate::random::Random;
+use crate::tables;
 use crate::trial::Trial;
 
 /// More than the longest guard.
@@ -32,6 +33,7 @@ pub fn damaged_plans<S: Implementation, R: Implementation>(trial: &mut Trial<S, 
         trial.pass(&plan, &one, &two);
         trial.simulate(&plan, code, node, site, &state);
         trial.record(&plan, &state, &one, &two);
+        trial.record_by(&plan, &tables::any(random), &state, &one, &two);
         trial.central(&plan, code, node, &one, &two);
     }
 }
@@ -158,6 +160,9 @@ pub fn states<S: Implementation, R: Implementation>(
         }
         let (marks, classes) = (random.bytes(nodes), random.bytes(nodes));
         trial.record(plan, &state, &marks, &classes);
+        for _ in 0..3 {
+            trial.record_by(plan, &tables::any(random), &state, &marks, &classes);
+        }
     }
 }
 
@@ -180,6 +185,7 @@ pub fn lengths<S: Implementation, R: Implementation>(
         trial.pass(plan, &one, &two);
         trial.simulate(plan, code, node, site, &state);
         trial.record(plan, &state, &one, &two);
+        trial.record_by(plan, &tables::any(random), &state, &one, &two);
         trial.central(plan, code, node, &one, &two);
     }
 }

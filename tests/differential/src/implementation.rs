@@ -25,6 +25,15 @@ pub trait Implementation {
     fn simulate(&mut self, plan: &[u8], code: u32, node: u32, site: u32, state: &mut [u8]) -> u32;
     /// The end record.
     fn record(&mut self, plan: &[u8], state: &[u8], marks: &mut [u8], classes: &mut [u8]) -> u32;
+    /// The end record by a filing table that is handed in.
+    fn record_by(
+        &mut self,
+        plan: &[u8],
+        table: &[u8],
+        state: &[u8],
+        marks: &mut [u8],
+        classes: &mut [u8],
+    ) -> u32;
     /// The central rule.
     fn central(&mut self, plan: &[u8], code: u32, node: u32, marks: &mut [u8], notes: &mut [u8]) -> u32;
     /// What the program prints for each of these texts.
@@ -73,6 +82,17 @@ impl Implementation for Reference {
 
     fn record(&mut self, plan: &[u8], state: &[u8], marks: &mut [u8], classes: &mut [u8]) -> u32 {
         exported::record(plan, state, marks, classes)
+    }
+
+    fn record_by(
+        &mut self,
+        plan: &[u8],
+        table: &[u8],
+        state: &[u8],
+        marks: &mut [u8],
+        classes: &mut [u8],
+    ) -> u32 {
+        exported::record_by(plan, table, state, marks, classes)
     }
 
     fn central(&mut self, plan: &[u8], code: u32, node: u32, marks: &mut [u8], notes: &mut [u8]) -> u32 {

@@ -6,6 +6,7 @@ use crate::driver::{Driver, Step, Temper, Tree};
 use crate::implementation::Implementation;
 use crate::lent::Pair;
 use crate::random::Random;
+use crate::tables;
 use crate::trial::{Trial, hex};
 
 /// A rehearsal stops where the sides part: nothing after it would tell more.
@@ -208,11 +209,13 @@ impl<'a, S: Implementation, R: Implementation> Job<'a, S, R> {
         let state = self.state.subject.bytes();
         let (_, marks, classes) = self.trial.record(self.plan, state, &marks, &classes);
         let (marks, classes) = (marks.to_vec(), classes.to_vec());
+        let table = tables::sound(self.random);
+        let own = self.trial.record_by(self.plan, &table, state, &marks, &classes).2.to_vec();
         let before = self.random.bytes(self.nodes);
         let (result, passed) = self.trial.pass(self.plan, answers, &before);
-        let passed_classes: Vec<u8> =
-            passed.iter().enumerate().map(|(node, &mark)| class(self.tree.kind(node), mark)).collect();
-        let same_record = number(result) == 0 && passed == marks && passed_classes == classes;
+        let filed = |table| tables::classes(&self.tree, table, &marks);
+        let same_classes = filed(&tables::USUAL) == classes && filed(&table) == own;
+        let same_record = number(result) == 0 && passed == marks && same_classes;
         self.trial.tally.jobs.agreeing += 1;
         let same = self.trial.tally.compare(same_record, || {
             let (plan, answers, marks) = (hex(self.plan), hex(answers), hex(&marks));
@@ -257,15 +260,5 @@ impl<'a, S: Implementation, R: Implementation> Job<'a, S, R> {
         answers[node] = self.random.one_of(&[0, 1, 2, 3, 9, 255]);
         let before = self.random.bytes(self.nodes);
         self.trial.pass(self.plan, &answers, &before);
-    }
-}
-
-/// The filing class of a mark: blocks have none.
-fn class(kind: u8, mark: u8) -> u8 {
-    match (kind, mark) {
-        (TASK, 3) => 1,
-        (TASK, 4 | 5) => 2,
-        (TASK, 1 | 2) => 3,
-        _ => 0,
     }
 }

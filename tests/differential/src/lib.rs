@@ -3,8 +3,8 @@
 //! The implementation under trial is called the *subject*. Everything is
 //! drawn from a seed, so every run can be repeated.
 //!
-//! * [`plans`], [`driver`] and [`texts`] make plans, rehearsal steps and
-//!   rehearsal texts.
+//! * [`plans`], [`tables`], [`driver`] and [`texts`] make plans, filing tables,
+//!   rehearsal steps and rehearsal texts.
 //! * [`trial`] makes one call on both sides and compares all that can be seen.
 //! * [`calls`] tries single calls, [`job`] whole rehearsals, [`texts`] the
 //!   program; [`run`] puts them in turn.
@@ -24,6 +24,7 @@ pub mod plans;
 pub mod program;
 pub mod random;
 pub mod run;
+pub mod tables;
 pub mod tally;
 pub mod texts;
 pub mod trial;

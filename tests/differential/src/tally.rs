@@ -28,6 +28,8 @@ pub enum Function {
     Simulate,
     /// `vulcedar_record`
     Record,
+    /// `vulcedar_record_by`
+    RecordBy,
     /// `vulcedar_central`
     Central,
     /// The program `rehearse`; a refused plan or text counts once, otherwise
@@ -36,9 +38,9 @@ pub enum Function {
 }
 
 /// How many functions there are.
-const FUNCTIONS: usize = 12;
-/// How many numbers there are, with 0 for passed.
-const NUMBERS: usize = 16;
+const FUNCTIONS: usize = 13;
+/// One more than the highest number; 0 is passed.
+const NUMBERS: usize = 22;
 
 impl Function {
     /// All of them, in the order of the table.
@@ -53,6 +55,7 @@ impl Function {
         Function::Pass,
         Function::Simulate,
         Function::Record,
+        Function::RecordBy,
         Function::Central,
         Function::Rehearse,
     ];
@@ -70,6 +73,7 @@ impl Function {
             Function::Pass => "pass",
             Function::Simulate => "simulate",
             Function::Record => "record",
+            Function::RecordBy => "record_by",
             Function::Central => "central",
             Function::Rehearse => "rehearse",
         }
@@ -86,7 +90,8 @@ impl Function {
             Function::Pass => &[0, 1, 2, 3, 4, 5, 6, 7, 13, 14],
             Function::Simulate => &[0, 1, 2, 3, 4, 5, 6, 7, 8, 9, 10, 11, 12],
             Function::Rewrite | Function::Record | Function::CheckDepths => &[0, 1, 2, 3, 4, 5, 6, 7],
-            Function::Rehearse => &[0, 1, 2, 3, 4, 5, 6, 8, 9, 10, 11, 12, 15],
+            Function::RecordBy => &[0, 1, 2, 3, 4, 5, 6, 7, 21],
+            Function::Rehearse => &[0, 1, 2, 3, 4, 5, 6, 8, 9, 10, 11, 12, 15, 21],
         }
     }
 }
@@ -204,14 +209,17 @@ impl Tally {
 
 impl fmt::Display for Tally {
     fn fmt(&self, out: &mut fmt::Formatter) -> fmt::Result {
+        let is_used = |number: &u8| Function::ALL.iter().any(|function| function.numbers().contains(number));
+        let used: Vec<u8> = (0..NUMBERS as u8).filter(is_used).collect();
         write!(out, "{:<9}", "number")?;
-        for number in 0..NUMBERS {
+        for number in &used {
             write!(out, "{number:>9}")?;
         }
         for function in Function::ALL {
             write!(out, "\n{:<9}", function.name())?;
-            for (number, count) in self.counts[function as usize].iter().enumerate() {
-                if function.numbers().contains(&(number as u8)) || *count > 0 {
+            for number in &used {
+                let count = self.counts[function as usize][usize::from(*number)];
+                if function.numbers().contains(number) || count > 0 {
                     write!(out, "{count:>9}")?;
                 } else {
                     write!(out, "{:>9}", "-")?;

@@ -5,6 +5,7 @@ use crate::driver::{Driver, Step, Temper};
 use crate::implementation::{Implementation, Reference};
 use crate::plans;
 use crate::random::Random;
+use crate::tables;
 use crate::tally::Function;
 use crate::trial::Trial;
 
@@ -25,10 +26,11 @@ pub fn run<S: Implementation, R: Implementation>(trial: &mut Trial<S, R>, random
 
 /// A text of any sort.
 fn any(random: &mut Random) -> Vec<u8> {
-    match random.below(20) {
+    match random.below(22) {
         0..=8 => sound(random),
         9..=15 => damaged(random),
         16 => with_damaged_plan(random),
+        20 | 21 => with_damaged_table(random),
         17 => at_the_limit(random),
         18 => noise(random),
         _ => random_lines(random),
@@ -39,10 +41,11 @@ fn any(random: &mut Random) -> Vec<u8> {
 fn sound(random: &mut Random) -> Vec<u8> {
     let most = random.one_of(&[1, 3, 6, 6, 12, 12, 30, 160]);
     let plan = plans::up_to(random, most);
-    let most_steps = (MOST_BYTES - plan.len() / 2 * 5 - 3) / 7;
+    let table = if random.chance(40) { table_text(&tables::sound(random)) } else { vec![] };
+    let most_steps = (MOST_BYTES - table.len() - plan.len() / 2 * 5 - 3) / 7;
     let steps = random.one_of(&[0, 5, 50, 400, most_steps]);
     let steps = steps_of(random, &plan, steps.min(most_steps));
-    text_of(&plan, &steps)
+    [table, text_of(&plan, &steps)].concat()
 }
 
 /// Steps of a rehearsal with numbers of one byte.
@@ -63,11 +66,18 @@ fn steps_of(random: &mut Random, plan: &[u8], most: usize) -> Vec<[u8; 3]> {
     steps
 }
 
+/// A table of any even length, with the line that closes it.
+fn table_text(table: &[u8]) -> Vec<u8> {
+    [frames(table).as_bytes(), b"==\n"].concat()
+}
+
+/// Two bytes a line.
+fn frames(bytes: &[u8]) -> String {
+    bytes.chunks_exact(2).map(|frame| format!("{:02x}{:02x}\n", frame[0], frame[1])).collect()
+}
+
 fn text_of(plan: &[u8], steps: &[[u8; 3]]) -> Vec<u8> {
-    let mut text = String::new();
-    for node in plan.chunks(2) {
-        text += &format!("{:02x}{:02x}\n", node[0], node[1]);
-    }
+    let mut text = frames(plan);
     text += "--\n";
     for [code, node, site] in steps {
         text += &format!("{code:02x}{node:02x}{site:02x}\n");
@@ -81,7 +91,23 @@ fn with_damaged_plan(random: &mut Random) -> Vec<u8> {
     if plan.len() % 2 == 1 {
         plan.pop();
     }
-    text_of(&plan, &[[1, 0, 0xff]])
+    let table = if random.chance(30) { table_text(&tables::any(random)) } else { vec![] };
+    [table, text_of(&plan, &[[1, 0, 0xff]])].concat()
+}
+
+/// A text in good form whose table is mostly refused; now and then a second
+/// table, or something wrong behind it.
+fn with_damaged_table(random: &mut Random) -> Vec<u8> {
+    let plan = plans::up_to(random, 6);
+    let steps = steps_of(random, &plan, 20);
+    let mut text = [table_text(&tables::damaged(random)), text_of(&plan, &steps)].concat();
+    match random.below(6) {
+        0 => text = [table_text(&tables::any(random)), text].concat(),
+        1 => change(random, &mut text),
+        2 => text.extend(random.one_of(&[&b"==\n"[..], b"--\n", b"0100f\n", b"0100"])),
+        _ => {}
+    }
+    text
 }
 
 /// One task and as many steps as just fit, a little less or a little more.
@@ -119,8 +145,8 @@ fn change(random: &mut Random, text: &mut Vec<u8>) {
     let place = random.below(text.len() + 1);
     match random.below(8) {
         0 => insert(text, place, &random.bytes(1)),
-        1 => insert(text, place, &[random.one_of(b"0123456789abcdefABCDEFGg-\n\r \t\0")]),
-        2 if place < text.len() => text[place] = random.one_of(b"0123456789abcdefABCDEFGg-\n\r \t\0"),
+        1 => insert(text, place, &[random.one_of(b"0123456789abcdefABCDEFGg-=\n\r \t\0")]),
+        2 if place < text.len() => text[place] = random.one_of(b"0123456789abcdefABCDEFGg-=\n\r \t\0"),
         3 if place < text.len() => {
             text.remove(place);
         }
@@ -134,6 +160,13 @@ fn change_line(random: &mut Random, text: &mut Vec<u8>) {
     let mut lines: Vec<Vec<u8>> = text.split_inclusive(|&byte| byte == b'\n').map(<[u8]>::to_vec).collect();
     let new: &[u8] = random.one_of(&[
         &b"--\n"[..],
+        b"==\n",
+        b"==\n",
+        b"===\n",
+        b"==\r\n",
+        b"=-\n",
+        b"0000\n",
+        b"0402\n",
         b"\n",
         b"-\n",
         b"---\n",

@@ -17,6 +17,7 @@ pub struct Trial<S, R> {
     pub tally: Tally,
     plan: Lent,
     read: Lent,
+    table: Lent,
     one: Pair,
     two: Pair,
 }
@@ -38,6 +39,7 @@ impl<S: Implementation, R: Implementation> Trial<S, R> {
             tally: Tally::default(),
             plan: Lent::default(),
             read: Lent::default(),
+            table: Lent::default(),
             one: Pair::default(),
             two: Pair::default(),
         }
@@ -179,6 +181,40 @@ impl<S: Implementation, R: Implementation> Trial<S, R> {
         let refused_leaves = number(ours) == 0 || (self.one.is_untouched() && self.two.is_untouched());
         let same = self.one.agrees() && self.two.agrees() && refused_leaves && self.read.is_still(state);
         let call = Call { function: Function::Record, plan, numbers: &[], lent: &[state, marks, classes] };
+        self.judge(call, ours, theirs, same);
+        (ours, self.one.subject.bytes(), self.two.subject.bytes())
+    }
+
+    /// The end record by a table, into marks and classes that hold these
+    /// bytes; answers the subject's marks and classes too.
+    pub fn record_by(
+        &mut self,
+        plan: &[u8],
+        table: &[u8],
+        state: &[u8],
+        marks: &[u8],
+        classes: &[u8],
+    ) -> (u32, &[u8], &[u8]) {
+        self.plan.load(plan);
+        self.read.load(state);
+        self.table.load(table);
+        self.one.load(marks);
+        self.two.load(classes);
+        let (subject_marks, subject_classes) = (&mut self.one.subject, &mut self.two.subject);
+        let theirs = self.subject.record_by(
+            self.plan.bytes(),
+            self.table.bytes(),
+            self.read.bytes(),
+            subject_marks.bytes_mut(),
+            subject_classes.bytes_mut(),
+        );
+        let ours =
+            self.reference.record_by(plan, table, state, &mut self.one.reference, &mut self.two.reference);
+        let refused_leaves = number(ours) == 0 || (self.one.is_untouched() && self.two.is_untouched());
+        let read_stays = self.read.is_still(state) && self.table.is_still(table);
+        let same = self.one.agrees() && self.two.agrees() && refused_leaves && read_stays;
+        let lent = &[table, state, marks, classes];
+        let call = Call { function: Function::RecordBy, plan, numbers: &[], lent };
         self.judge(call, ours, theirs, same);
         (ours, self.one.subject.bytes(), self.two.subject.bytes())
     }

@@ -62,6 +62,9 @@ fn a_mistake_on_both_sides_is_found() {
         Mistake::RuleLeftOut,
         Mistake::RuleWithMessages,
         Mistake::RuleWithRefusals,
+        Mistake::TableIgnored,
+        Mistake::TableStays,
+        Mistake::TableFilesBlocks,
     ];
     let options = Options { seed: 15, steps: 1_000_000, texts: 0, enough: 1, only: None };
     for mistake in mistakes {

@@ -8,6 +8,7 @@
 use crate::refusal::Refusal;
 use crate::simulate::Outcome;
 use crate::site::Verdict;
+use crate::table::Table;
 use crate::{central as central_rule, guard as guards, pass as passes, plan, record as records};
 use crate::{rewrite as rewriting, rule as rules, simulate as simulation, site as sites};
 
@@ -89,10 +90,17 @@ pub fn simulate(plan: &[u8], code: u32, node: u32, site: u32, state: &mut [u8]) 
     }
 }
 
-/// The end record of a rehearsal's state. 1 to 7.
+/// The end record of a rehearsal's state, by the usual table. 1 to 7.
 #[inline(never)]
 pub fn record(plan: &[u8], state: &[u8], marks: &mut [u8], classes: &mut [u8]) -> u32 {
-    done(records::record(plan, state, marks, classes))
+    done(records::record(&Table::USUAL, plan, state, marks, classes))
+}
+
+/// The end record by a table that is handed in. 21, then 1 to 7.
+#[inline(never)]
+pub fn record_by(plan: &[u8], table: &[u8], state: &[u8], marks: &mut [u8], classes: &mut [u8]) -> u32 {
+    let table = Table::load(table);
+    done(table.and_then(|table| records::record(&table, plan, state, marks, classes)))
 }
 
 /// The central rule; the value is 1 if the event was allowed. 1 to 9.

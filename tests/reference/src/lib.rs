@@ -30,6 +30,7 @@ pub mod rewrite;
 pub mod rule;
 pub mod simulate;
 pub mod site;
+pub mod table;
 pub mod text;
 
 pub use refusal::Refusal;

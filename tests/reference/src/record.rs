@@ -3,28 +3,25 @@
 use crate::mark;
 use crate::plan::{Kind, Plan};
 use crate::refusal::Refusal;
-
-/// Nothing is filed.
-pub const NONE: u8 = 0;
-/// Aired: kept a year.
-pub const AIRED: u8 = 1;
-/// Draft: kept a week.
-pub const DRAFT: u8 = 2;
-/// Log only: kept a day.
-pub const LOG: u8 = 3;
+use crate::table::{self, Table};
 
 /// The filing class of a node with this mark. Blocks are not filed.
-pub fn class(kind: Kind, mark: u8) -> u8 {
-    match (kind, mark) {
-        (Kind::Task, mark::COMMITTED) => AIRED,
-        (Kind::Task, mark::FAILED | mark::TURNED_DOWN) => DRAFT,
-        (Kind::Task, mark::RUNNING | mark::OFFERED) => LOG,
-        _ => NONE,
+pub fn class(table: &Table, kind: Kind, mark: u8) -> u8 {
+    match kind {
+        Kind::Task => table.class(mark),
+        _ => table::NONE,
     }
 }
 
-/// Writes every node's mark, by its own site's row, and its class.
-pub fn record(plan: &[u8], state: &[u8], marks: &mut [u8], classes: &mut [u8]) -> Result<(), Refusal> {
+/// Writes every node's mark, by its own site's row, and its class by the
+/// table. 1 to 7; a table is loaded before, so its 21 comes first.
+pub fn record(
+    table: &Table,
+    plan: &[u8],
+    state: &[u8],
+    marks: &mut [u8],
+    classes: &mut [u8],
+) -> Result<(), Refusal> {
     let plan = Plan::check(plan)?;
     let size = plan.size();
     if state.len() != size * size || marks.len() != size || classes.len() != size {
@@ -32,7 +29,7 @@ pub fn record(plan: &[u8], state: &[u8], marks: &mut [u8], classes: &mut [u8]) -
     }
     for node in 0..size {
         marks[node] = mark::of_heard(state[node * size + node]);
-        classes[node] = class(plan.kind(node), marks[node]);
+        classes[node] = class(table, plan.kind(node), marks[node]);
     }
     Ok(())
 }

@@ -35,6 +35,8 @@ pub enum Refusal {
     Choice = 14,
     /// The text is malformed or too long.
     Text = 15,
+    /// A filing table that isn't one.
+    Table = 21,
 }
 
 impl Refusal {

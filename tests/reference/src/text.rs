@@ -3,13 +3,17 @@
 
 use crate::exported::{self, number};
 use crate::plan::{MAX_NODES, Plan};
+use crate::record;
 use crate::refusal::Refusal;
+use crate::table::Table;
 
 /// The longest text that is read.
 pub const MAX_TEXT: usize = 32_768;
 
 /// Stands between plan and steps.
 const DIVIDER: &[u8] = b"--";
+/// Stands after a table, where there is one.
+const TABLE_END: &[u8] = b"==";
 
 /// Runs a rehearsal and answers the program's output.
 pub fn rehearse(text: &[u8]) -> Vec<u8> {
@@ -23,29 +27,32 @@ pub fn rehearse(text: &[u8]) -> Vec<u8> {
 
 /// A text taken apart.
 struct Script {
+    /// The bytes of the filing table, if the text has one.
+    table: Option<Vec<u8>>,
     plan: Vec<u8>,
     steps: Vec<[u8; 3]>,
 }
 
 fn run(text: &[u8], output: &mut Vec<u8>) -> Result<(), Refusal> {
     let script = read(text).ok_or(Refusal::Text)?;
+    let table = script.table.as_deref().map_or(Ok(Table::USUAL), Table::load)?;
     let size = Plan::check(&script.plan)?.size();
     let mut state = vec![0; size * size];
     for [code, node, site] in script.steps.iter().map(|step| step.map(u32::from)) {
         let result = exported::simulate(&script.plan, code, node, site, &mut state);
         put_line(output, &[number(result)]);
     }
-    put_record(&script.plan, &state, output);
-    Ok(())
+    put_record(&table, &script.plan, &state, output)
 }
 
-fn put_record(plan: &[u8], state: &[u8], output: &mut Vec<u8>) {
+fn put_record(table: &Table, plan: &[u8], state: &[u8], output: &mut Vec<u8>) -> Result<(), Refusal> {
     let (mut marks, mut classes) = ([0; MAX_NODES], [0; MAX_NODES]);
     let size = plan.len() / 2;
-    exported::record(plan, state, &mut marks[..size], &mut classes[..size]);
+    record::record(table, plan, state, &mut marks[..size], &mut classes[..size])?;
     for (node, bytes) in plan.chunks(2).enumerate() {
         put_line(output, &[node as u8, bytes[0], marks[node], classes[node]]);
     }
+    Ok(())
 }
 
 /// The whole text is read before anything runs; `None` if it is malformed
@@ -55,15 +62,16 @@ fn read(text: &[u8]) -> Option<Script> {
         return None;
     }
     let mut lines = text.strip_suffix(b"\n")?.split(|&byte| byte == b'\n');
-    let mut plan = Vec::new();
+    let (mut table, mut plan) = (None, Vec::new());
     loop {
         match lines.next()? {
             DIVIDER => break,
+            TABLE_END if table.is_none() => table = Some(std::mem::take(&mut plan)),
             line => plan.extend(frame::<2>(line)?),
         }
     }
     let steps = lines.map(frame::<3>).collect::<Option<_>>()?;
-    Some(Script { plan, steps })
+    Some(Script { table, plan, steps })
 }
 
 /// A line of exactly so many bytes in lowercase hexadecimal.

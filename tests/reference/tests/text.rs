@@ -33,6 +33,8 @@ fn the_examples() {
     assert_eq!(rehearse(day), include_bytes!("../../../examples/captioning-day.out"));
     let early = include_bytes!("../../../examples/early-end.txt");
     assert_eq!(rehearse(early), include_bytes!("../../../examples/early-end.out"));
+    let table = include_bytes!("../../../examples/house-table.txt");
+    assert_eq!(rehearse(table), include_bytes!("../../../examples/house-table.out"));
 }
 
 #[test]
@@ -107,6 +109,73 @@ fn refused_plans_print_their_number_alone() {
     prints("01ff\n0100\n--\n", "04");
     prints("02ff\n--\n", "05");
     prints(format!("{}--\n", plan_text(&common::chain(33))), "06");
+}
+
+/// The usual table, and one of the house's own.
+const USUAL: &str = "0000 0103 0203 0301 0402 0502 ==";
+const OWN: &str = "0000 0101 0202 0303 0400 0503 ==";
+
+#[test]
+fn a_table_before_the_plan() {
+    let job = "02ff 0100 0100 -- 0100ff 010001 0101ff 0301ff 030102 0102ff 0402ff";
+    let numbers = "00 00 00 00 00 00 00";
+    prints(lines(job), &format!("{numbers} 00020100 01010301 02010402"));
+    prints(lines(&format!("{USUAL} {job}")), &format!("{numbers} 00020100 01010301 02010402"));
+    prints(lines(&format!("{OWN} {job}")), &format!("{numbers} 00020100 01010303 02010400"));
+    prints(lines(&format!("{OWN} 01ff -- 0100ff")), "00 00010101");
+}
+
+#[test]
+fn a_refused_table_prints_21_alone() {
+    let refused = [
+        "==",
+        "0000 ==",
+        "0000 0103 0203 0301 0402 ==",
+        "0000 0103 0203 0301 0402 0502 0602 ==",
+        "0001 0103 0203 0301 0402 0502 ==",
+        "0000 0103 0203 0304 0402 0502 ==",
+        "0000 0103 0203 0301 0402 05ff ==",
+        "0000 0203 0103 0301 0402 0502 ==",
+        "02ff 0100 ==",
+    ];
+    for table in refused {
+        prints(lines(&format!("{table} 02ff 0100 -- 0100ff")), "15");
+        prints(lines(&format!("{table} --")), "15");
+        prints(lines(&format!("{table} 09ff -- 0100ff")), "15");
+    }
+}
+
+/// 15 is found in the whole text before the table is looked at.
+#[test]
+fn where_a_table_may_stand() {
+    let malformed = [
+        format!("{USUAL} {USUAL} 01ff --"),
+        format!("{USUAL} == 01ff --"),
+        "== == 01ff --".to_string(),
+        "01ff -- ==".to_string(),
+        format!("01ff -- {USUAL}"),
+        format!("{USUAL} 01ff -- 0100ff =="),
+        format!("{USUAL} 01ff"),
+        USUAL.to_string(),
+        "==".to_string(),
+        "00 0103 0203 0301 0402 0502 == 01ff --".to_string(),
+        "000000 0103 0203 0301 0402 0502 == 01ff --".to_string(),
+        "0000 0103 0203 0301 0402 050A == 01ff --".to_string(),
+        "= 01ff --".to_string(),
+        "=== 01ff --".to_string(),
+        "0000== 01ff --".to_string(),
+        "0001 == 01ff -- 0100f".to_string(),
+        "0001 == 01ff -- 0100ff --".to_string(),
+    ];
+    for text in malformed {
+        prints(lines(&text), "0f");
+    }
+    prints("==\r\n01ff\n--\n", "0f");
+    prints("\n==\n01ff\n--\n", "0f");
+    prints("==\n\n01ff\n--\n", "0f");
+    prints(lines(&format!("{USUAL} --")), "01");
+    prints(lines(&format!("{USUAL} 09ff --")), "02");
+    prints(lines(&format!("01ff {USUAL} --")), "15");
 }
 
 /// One task and 4,680 steps are 32,768 bytes to the last.

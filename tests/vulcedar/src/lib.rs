@@ -90,6 +90,25 @@ pub fn record(plan: &[u8], state: &[u8], marks: &mut [u8], classes: &mut [u8]) -
     }
 }
 
+/// The end record by a filing table that is handed in.
+pub fn record_by(plan: &[u8], table: &[u8], state: &[u8], marks: &mut [u8], classes: &mut [u8]) -> u32 {
+    // SAFETY: as for `rewrite`.
+    unsafe {
+        raw::vulcedar_record_by(
+            plan.as_ptr(),
+            plan.len(),
+            table.as_ptr(),
+            table.len(),
+            state.as_ptr(),
+            state.len(),
+            marks.as_mut_ptr(),
+            marks.len(),
+            classes.as_mut_ptr(),
+            classes.len(),
+        )
+    }
+}
+
 /// The central rule; the value is 1 if the event was allowed.
 pub fn central(plan: &[u8], code: u32, node: u32, marks: &mut [u8], notes: &mut [u8]) -> u32 {
     // SAFETY: as for `rewrite`.

@@ -71,6 +71,19 @@ unsafe extern "C" {
         classes_length: usize,
     ) -> u32;
 
+    pub fn vulcedar_record_by(
+        plan: *const u8,
+        plan_length: usize,
+        table: *const u8,
+        table_length: usize,
+        state: *const u8,
+        state_length: usize,
+        marks: *mut u8,
+        marks_length: usize,
+        classes: *mut u8,
+        classes_length: usize,
+    ) -> u32;
+
     pub fn vulcedar_central(
         plan: *const u8,
         plan_length: usize,

@@ -18,6 +18,9 @@ pub const HAPPENS: u32 = 0xff;
 /// Plan P of the document.
 pub const P: &str = "02ff 0100 0500 0102 0102 0100";
 
+/// The filing table that is used where none is handed in.
+pub const USUAL_TABLE: [u8; 12] = [0, 0, 1, 3, 2, 3, 3, 1, 4, 2, 5, 2];
+
 /// Bytes from hexadecimal; spaces don't count.
 pub fn hex(text: &str) -> Vec<u8> {
     let digits: Vec<u8> = text.chars().filter_map(|c| c.to_digit(16)).map(|d| d as u8).collect();
@@ -146,5 +149,14 @@ impl Rehearsal {
         let (mut marks, mut classes) = (vec![0xee; nodes], vec![0xee; nodes]);
         assert_eq!(exported::record(&self.plan, &self.state, &mut marks, &mut classes), 0);
         (marks, classes)
+    }
+
+    /// The classes by a table.
+    pub fn classes_by(&self, table: &[u8]) -> Vec<u8> {
+        let nodes = self.plan.len() / 2;
+        let (mut marks, mut classes) = (vec![0xee; nodes], vec![0xee; nodes]);
+        assert_eq!(exported::record_by(&self.plan, table, &self.state, &mut marks, &mut classes), 0);
+        assert_eq!(marks, self.marks());
+        classes
     }
 }
