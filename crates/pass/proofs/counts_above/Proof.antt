@@ -1,5 +1,4 @@
 -- The nodes left above u, with what those up to u left, say what all nodes above v say. Assumes nothing.
-use mathlib.Core.Path.{_≡_, sym, _∙_}
 use mathlib.Core.Logic.{⊎-elim}
 use native.Mathlib.Omega.{arith}
 use borrow.Author.Needs.{needs}
