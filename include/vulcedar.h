@@ -20,8 +20,10 @@
  *
  * Marks: 0 not started, 1 running, 2 offered, 3 committed, 4 failed, 5 turned down.
  * Retention classes: 0 none, 1 aired (a year), 2 draft (a week), 3 log only (one day).
- *   a block has class 0; a task's class goes by its mark and a table of 12 bytes: six frames of mark and class, marks 00
- *   to 05 in order, classes 00 to 03, and mark 00 has class 00
+ *   a block has class 0; a task's class is what a table has for the mark as which the task counts
+ *   a committed task counts as mark 5 if a block above it (its parent, and so on up to the root) failed or was turned
+ *   down, else as mark 2 if one is not committed, else as mark 3; any other task counts as its own mark
+ *   a table is 12 bytes: six frames of mark and class, marks 00 to 05 in order, classes 00 to 03, mark 00 with class 00
  *   the common table is 00 00 01 03 02 03 03 01 04 02 05 02; a house can hand in its own (vulcedar_record_by)
  *
  * Rules: one byte says by which rule an event passes, for a log. Its low hexadecimal digit is the event's code, its high

@@ -15,7 +15,7 @@ use Rattle.lists.proofs.Between.{between}
 use Rattle.plan.specs.Plan.{Kind, task, serial, and, or, xor, contingency, conditional, waiting, kindNumber, isKind, kindOf, kindByte, kind}
 use Rattle.plan.proofs.KindLaws.{is-kind, kind-other}
 use Rattle.pass.specs.Pass.{Outcome, works, breaks, fault, Tally, goesBy, goes, goodMark, note, childMark, oneOrTwo, badAnswer, badPick, closes, ending}
-use Rattle.pass.specs.Record.{frameOk, tableOk, tableNumber, classOf, class}
+use Rattle.pass.specs.Record.{frameOk, tableOk, tableNumber, classOf, countsAs, class}
 
 module _ (k a : ℕ) where
   pub answer-block : 2 ≤ k → k < 7 → 0 ≡ badAnswer (kindOf k) a
@@ -156,12 +156,12 @@ module _ (a : ℕ) (t : Tally) (o : Outcome) (e : o ≡ works) where
 module _ (p tab m : List ℕ) (v k : ℕ) (e : k ≡ kindByte p v) where
   pub class-block : 2 ≤ k → k < 9 → 0 ≡ class p tab m v
   unfolding class kind isKind kindNumber kindOf upFrom
-  class-block l h = rw (← e) (between (λ k. 0) (λ k. cond (isKind task (kindOf k)) (classOf tab (getD m v 0)) 0) 2 7 refl k l h)
+  class-block l h = rw (← e) (between (λ k. 0) (λ k. cond (isKind task (kindOf k)) (classOf tab (countsAs p m v)) 0) 2 7 refl k l h)
 
-  -- x is the mark that was read, y the class
-  pub class-task : (2 ≤ k → k ≤ 8 → ⊥) → (i x j y : ℕ) → i ≡ v → x ≡ getD m i 0 → j ≡ x → y ≡ getD tab (2 * j + 1) 0 → y ≡ class p tab m v
+  -- x is the mark as which it counts, y the class that was read
+  pub class-task : (2 ≤ k → k ≤ 8 → ⊥) → (x j y : ℕ) → x ≡ countsAs p m v → j ≡ x → y ≡ getD tab (2 * j + 1) 0 → y ≡ class p tab m v
   unfolding class classOf kind isKind kindNumber
-  class-task n i x j y f g h q = rw (← e, kind-other k n, q, h, g, f)
+  class-task n x j y g h q = rw (← e, kind-other k n, q, h, g)
 
 -- a table's tests, in their order
 module _ (tab : List ℕ) where

@@ -1,12 +1,12 @@
 -- The record of a job (rules G): every node's mark and retention class, which the paper calls filing class, by a table from marks to classes.
 -- Definitions only.
-use mathlib.Core.Bool.{Bool, cond, _&&_}
+use mathlib.Core.Bool.{Bool, cond, _&&_, _||_}
 use mathlib.Core.List.{List, [], _∷_}
-use Prim.Native.Nat.{ℕ, _+_, _*_}
+use Prim.Native.Nat.{ℕ, zero, suc, _+_, _*_}
 use lib.Dec.{eqb, leb}
 use lib.ListN.{length, getD}
-use Rattle.lists.specs.Seq.{allBelow, table}
-use Rattle.plan.specs.Plan.{task, isKind, kind, size}
+use Rattle.lists.specs.Seq.{all, any, allBelow, table}
+use Rattle.plan.specs.Plan.{task, isKind, kind, parent, size}
 
 -- G1: the table where the house hands in none: frames of a mark and its class
 unfoldable pub commonTable : List ℕ
@@ -28,9 +28,32 @@ tableNumber tab = cond (tableOk tab) 0 21
 unfoldable pub classOf : List ℕ → ℕ → ℕ
 classOf tab mark = getD tab (2 * mark + 1) 0
 
+-- the nodes above v, its parent first, at most so many; and all of them, since parents have lower numbers
+unfoldable pub aboveWithin : ℕ → List ℕ → ℕ → List ℕ
+aboveWithin zero p v = []
+aboveWithin (suc nodes) p v = cond (eqb v 0) [] (parent p v ∷ aboveWithin nodes p (parent p v))
+
+unfoldable pub nodesAbove : List ℕ → ℕ → List ℕ
+nodesAbove p v = aboveWithin v p v
+
+-- G5: the mark of a node that failed or was turned down
+unfoldable pub fell : ℕ → Bool
+fell m = eqb m 4 || eqb m 5
+
+-- G5: the mark as which a committed node v counts: turned down if a node above fell, else offered if one is not committed
+unfoldable pub countsAbove : List ℕ → List ℕ → ℕ → ℕ
+countsAbove p marks v =
+    cond (any (λ u. fell (getD marks u 0)) (nodesAbove p v)) 5
+    (cond (all (λ u. eqb (getD marks u 0) 3) (nodesAbove p v)) 3
+    2)
+
+-- any other node counts as what it is marked
+unfoldable pub countsAs : List ℕ → List ℕ → ℕ → ℕ
+countsAs p marks v = cond (eqb (getD marks v 0) 3) (countsAbove p marks v) (getD marks v 0)
+
 -- G1, G2: the class of node v by a table, by the marks of all nodes; a block's is 0
 unfoldable pub class : List ℕ → List ℕ → List ℕ → ℕ → ℕ
-class p tab marks v = cond (isKind task (kind p v)) (classOf tab (getD marks v 0)) 0
+class p tab marks v = cond (isKind task (kind p v)) (classOf tab (countsAs p marks v)) 0
 
 pub record Record : Type 0 where
   pub marks : List ℕ

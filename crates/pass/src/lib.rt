@@ -7,7 +7,7 @@ ghost use Rattle.plan.specs.Plan.{kindOf, size};
 ghost use Rattle.plan.specs.Check.{Accepted};
 ghost use Rattle.pass.specs.Pass.{goes, skip, note, childMark, badAnswer, badPick, closes, endOf, numberOf, rootMark, passed, passInto};
 ghost use Rattle.pass.specs.Values.{outcomeOf, tallyOf, taskEnd, Ready, linkAt, Linked, Settles};
-ghost use Rattle.pass.specs.Record.{commonTable, frameOk, tableNumber, class};
+ghost use Rattle.pass.specs.Record.{commonTable, frameOk, tableNumber, fell, countsAbove, countsAs, class};
 
 // How a node ends; a fault has its number.
 enum Outcome {
@@ -334,6 +334,47 @@ pub fn check_table(table: &[u8]) -> u8
     0
 }
 
+fn fell(mark: u8) -> bool
+    ensures { λ r. ⌜ r ≡ fell mark ⌝ }
+{
+    mark == 4 || mark == 5
+}
+
+// As what a committed node v counts: 5 where a node above fell, else 2 where one is not committed, else 3.
+fn counts_above(plan: &[u8], marks: &[u8], v: u8) -> u8
+    ensures { λ r. ⌜ r ≡ countsAbove (now (plan .entry)) (now (marks .entry)) v ⌝ }
+{
+    let mut least = 3;
+    let mut u = v;
+    let mut left = v;
+    while left != 0 {
+        if u == 0 {
+            return least;
+        }
+        u = plan::parent(plan, u);
+        let mark = plan::byte_at(marks, plan::wide(u));
+        if fell(mark) {
+            return 5;
+        }
+        if mark != 3 {
+            least = 2;
+        }
+        left -= 1;
+    }
+    least
+}
+
+// The mark as which node v counts.
+fn counts_as(plan: &[u8], marks: &[u8], v: u8) -> u8
+    ensures { λ r. ⌜ r ≡ countsAs (now (plan .entry)) (now (marks .entry)) v ⌝ }
+{
+    let mark = plan::byte_at(marks, plan::wide(v));
+    if mark != 3 {
+        return mark;
+    }
+    counts_above(plan, marks, v)
+}
+
 // The retention class of node v by a table.
 pub fn class(plan: &[u8], table: &[u8], marks: &[u8], v: u8) -> u8
     ensures { λ r. ⌜ r ≡ class (now (plan .entry)) (now (table .entry)) (now (marks .entry)) v ⌝ }
@@ -341,7 +382,7 @@ pub fn class(plan: &[u8], table: &[u8], marks: &[u8], v: u8) -> u8
     match plan::kind(plan, v) {
         2..=8 => 0,
         _ => {
-            let mark = plan::byte_at(marks, plan::wide(v));
+            let mark = counts_as(plan, marks, v);
             plan::byte_at(table, 2 * plan::wide(mark) + 1)
         }
     }

@@ -1,10 +1,10 @@
--- The worked cases P1 to P10, on plan P: a guard's bytes (P1 to P8), and the marks that the pass writes (P9, P10). Then runs of the two
--- kinds of and. Assumes nothing.
+-- The worked cases P1 to P10, on plan P: a guard's bytes (P1 to P8), and the marks that the pass writes (P9, P10); and a draft that committed
+-- inside a block that was turned down, with its class. Then runs of the two kinds of and. Assumes nothing.
 use mathlib.Core.Path.{_≡_, refl}
 use mathlib.Core.Bool.{Bool, true, false}
-use mathlib.Core.List.{List, [], _∷_, map}
+use mathlib.Core.List.{List, [], _∷_, _++_, map}
 use Prim.Native.Nat.{ℕ}
-use Rattle.lists.specs.Seq.{all, any, keep, upFrom, headOr, lastOr}
+use Rattle.lists.specs.Seq.{all, any, keep, upFrom, table, headOr, lastOr}
 use Rattle.plan.specs.Plan.{kindNumber, isKind, kindOf, size, kindByte, kind, parent, childrenBelow, children, others, above, inXor}
 use Rattle.event.specs.Event.{start, offer, commit, abort, down, codeNumber, Event, at, appliesBy, applies}
 use Rattle.guard.specs.Guard.{beforeIn, isFirst, startBy, finishBy, abortBy, finishing, aborting, guardBy, guard}
@@ -12,18 +12,29 @@ use Rattle.guard.specs.Bytes.{encEvents, encClauses, encode}
 use Rattle.central.specs.Mark.{markNumber, isMark}
 use Rattle.central.specs.Central.{fresh, markAfter, answerAfter, pickedAfter, after, reachedBy, mayStart, finishesBy, failsBy, allowedBy, allowed, runFrom, isRun}
 use Rattle.pass.specs.Pass.{goesBy, goes, goodMark, skip, note, childMark, noted, meetBy, meet, walk, nothing, unwalked, oneOrTwo, badAnswer, badPick, closes, ending, endOf, close, settleIf, settleBy, settle, numberOf, rootMark, passOf, pass}
+use Rattle.pass.specs.Record.{commonTable, classOf, aboveWithin, nodesAbove, fell, countsAbove, countsAs, class, Record, recordOf}
 
 pub data Question : Type 0 where
   guard-bytes : Event → Question
   pass-marks : List ℕ → Question
+  pass-record : List ℕ → Question
 
 -- serial 0: task 1, xor 2 of tasks 3 and 4, task 5
 abbrev planP : List ℕ
 planP = 2 ∷ 255 ∷ 1 ∷ 0 ∷ 5 ∷ 0 ∷ 1 ∷ 2 ∷ 1 ∷ 2 ∷ 1 ∷ 0 ∷ []
 
+-- xor 0: serial 1 of task 2, task 3
+abbrev planD : List ℕ
+planD = 5 ∷ 255 ∷ 2 ∷ 0 ∷ 1 ∷ 1 ∷ 1 ∷ 0 ∷ []
+
+-- a record: the marks, and the classes behind them
+listed : Record → List ℕ
+listed r = r .marks ++ r .classes
+
 pub answer : Question → List ℕ
 answer (guard-bytes e) = encode (guard planP e)
 answer (pass-marks a) = pass planP a .marks
+answer (pass-record a) = listed (recordOf planD commonTable (pass planD a .marks))
 
 pub record Case : Type 0 where
   pub asked : Question
@@ -44,10 +55,11 @@ cases =
     ∷ case (guard-bytes (at offer 3)) (1 ∷ 1 ∷ 1 ∷ 3 ∷ [])
     ∷ case (pass-marks (0 ∷ 1 ∷ 1 ∷ 1 ∷ 1 ∷ 1 ∷ [])) (3 ∷ 3 ∷ 3 ∷ 3 ∷ 5 ∷ 3 ∷ [])
     ∷ case (pass-marks (0 ∷ 2 ∷ 1 ∷ 1 ∷ 1 ∷ 1 ∷ [])) (4 ∷ 4 ∷ 0 ∷ 0 ∷ 0 ∷ 0 ∷ [])
+    ∷ case (pass-record (2 ∷ 0 ∷ 1 ∷ 1 ∷ [])) (3 ∷ 5 ∷ 3 ∷ 3 ∷ 0 ∷ 0 ∷ 2 ∷ 1 ∷ [])
     ∷ []
 
 pub all-right : map (λ k. answer (k .asked)) cases ≡ map (λ k. k .told) cases
-unfolding cases case answer encode encClauses encEvents guard guardBy startBy finishBy abortBy finishing aborting isFirst headOr beforeIn lastOr above inXor isKind kindNumber kind kindOf kindByte parent size children childrenBelow others keep upFrom codeNumber pass passOf settle settleBy settleIf close endOf ending closes badPick badAnswer oneOrTwo nothing unwalked walk meet meetBy noted note childMark skip goodMark goes goesBy numberOf rootMark
+unfolding cases case answer listed recordOf class classOf countsAs countsAbove nodesAbove aboveWithin fell commonTable table any all encode encClauses encEvents guard guardBy startBy finishBy abortBy finishing aborting isFirst headOr beforeIn lastOr above inXor isKind kindNumber kind kindOf kindByte parent size children childrenBelow others keep upFrom codeNumber pass passOf settle settleBy settleIf close endOf ending closes badPick badAnswer oneOrTwo nothing unwalked walk meet meetBy noted note childMark skip goodMark goes goesBy numberOf rootMark
 all-right = refl
 
 -- an and over two tasks, of kind 03 or 08

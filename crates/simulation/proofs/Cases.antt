@@ -11,7 +11,7 @@ use Rattle.event.specs.Bit.{weight, hasBit, withBit}
 use Rattle.event.specs.Valid.{invalid}
 use Rattle.guard.specs.Guard.{beforeIn, isFirst, startBy, finishBy, abortBy, finishing, aborting, guardBy, guard, holds, barsBy, bars, barred}
 use Rattle.central.specs.Mark.{markNumber}
-use Rattle.pass.specs.Record.{commonTable, classOf, class, Record, recordOf}
+use Rattle.pass.specs.Record.{commonTable, classOf, aboveWithin, nodesAbove, fell, countsAbove, countsAs, class, Record, recordOf}
 use Rattle.site.specs.Row.{heardIn, heard, hear}
 use Rattle.site.specs.Verdict.{refusalNumber, verdictNumber}
 use Rattle.site.specs.Step.{stepInvalid, decide, stepOf}
@@ -67,5 +67,5 @@ cases =
     ∷ []
 
 pub all-right : map (λ k. resultOf (k .rows) (k .steps)) cases ≡ map (λ k. k .result) cases
-unfolding cases case resultOf sitesFrom shared own siteOf hostOf hostBy stepFrom simulate happen tell eventBy stateFits rowOf withRow replayFrom numbersFrom replay zeros markBy markAt endMarks recordOf class classOf commonTable invalid known applies appliesBy isCode codeOf codeNumber stepOf stepInvalid decide verdictNumber refusalNumber heard heardIn hear hasBit withBit weight markNumber checkNumber lengthOk kindOk parentOk underBlock fits countOk depthOk atAll size kindByte kind kindOf kindNumber isKind parent childrenBelow children childCount depth depthWithin above inXor guard guardBy startBy finishBy abortBy finishing aborting isFirst headOr beforeIn holds barred bars barsBy all any keep upFrom allBelow table lastOr
+unfolding cases case resultOf sitesFrom shared own siteOf hostOf hostBy stepFrom simulate happen tell eventBy stateFits rowOf withRow replayFrom numbersFrom replay zeros markBy markAt endMarks recordOf class classOf countsAs countsAbove nodesAbove aboveWithin fell commonTable invalid known applies appliesBy isCode codeOf codeNumber stepOf stepInvalid decide verdictNumber refusalNumber heard heardIn hear hasBit withBit weight markNumber checkNumber lengthOk kindOk parentOk underBlock fits countOk depthOk atAll size kindByte kind kindOf kindNumber isKind parent childrenBelow children childCount depth depthWithin above inXor guard guardBy startBy finishBy abortBy finishing aborting isFirst headOr beforeIn holds barred bars barsBy all any keep upFrom allBelow table lastOr
 all-right = refl

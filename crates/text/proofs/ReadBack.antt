@@ -15,7 +15,7 @@ use Rattle.lists.proofs.Logic.{cases, decided, and-left, and-right}
 use Rattle.lists.proofs.Below.{below-by, below-at}
 use Rattle.lists.proofs.Table.{table-by}
 use Rattle.text.specs.Hex.{isDigit, valueOf, digitOf, digitAt, isLine, lineByte, lineBytes, hexLine}
-use Rattle.text.specs.Text.{lines, isBar, hasTable, bodyAt, body, planLines, barText, stepText, stepLines, bodyFormed, wellFormed, headOf, bodyOf, textOf, tableIn, isBytes, areLines, isHead}
+use Rattle.text.specs.Text.{lines, isBar, hasTable, body, planLines, barText, stepText, stepLines, bodyFormed, wellFormed, headOf, bodyOf, textOf, tableIn, isBytes, areLines, isHead}
 use Rattle.text.proofs.TextLaws.{lines-none, lines-some, table-at, no-table-body}
 use Rattle.text.proofs.PrintLaws.{hex-length}
 

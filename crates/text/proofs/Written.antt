@@ -16,7 +16,7 @@ use Rattle.lists.proofs.Logic.{cases, decided, and-left, and-right, and-join}
 use Rattle.lists.proofs.Below.{below-at}
 use Rattle.lists.proofs.PutLaws.{drop-turn}
 use Rattle.text.specs.Hex.{isDigit, valueOf, digitOf, digitAt, isLine, lineByte, lineBytes, hexLine}
-use Rattle.text.specs.Text.{linesWithin, lines, isBar, hasTable, bodyAt, body, planLines, barText, stepText, stepLines, bodyFormed, wellFormed, headOf, bodyOf, textOf, tableIn, isBytes, areLines, isHead}
+use Rattle.text.specs.Text.{linesWithin, lines, isBar, hasTable, body, planLines, barText, stepText, stepLines, bodyFormed, wellFormed, headOf, bodyOf, textOf, tableIn, isBytes, areLines, isHead}
 use Rattle.text.proofs.HexLaws.{low-least, low-value, high-least, high-value, value-small, line-digits, line-feed, line-long}
 use Rattle.text.proofs.TextLaws.{bar-long, table-at, no-table-body, formed-bar, formed-steps, formed-body}
 use Rattle.text.proofs.DecodeLaws.{line-length}

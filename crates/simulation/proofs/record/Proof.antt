@@ -1,5 +1,5 @@
 -- The record by the common table. Assumes nothing.
-use mathlib.Core.Path.{_≡_, sym, ap, _∙_}
+use mathlib.Core.Path.{sym, ap, _∙_}
 use borrow.Author.Needs.{needs}
 use Rattle.simulation.specs.Run.{recordByInto}
 use Rattle.simulation.proofs.record.Statement.{statement}
