@@ -20,6 +20,10 @@
  *
  * Marks: 0 not started, 1 running, 2 offered, 3 committed, 4 failed, 5 turned down.
  * Retention classes: 0 none, 1 aired (a year), 2 draft (a week), 3 log only (one day).
+ *   a task has the class of its mark: 0 of mark 0, 3 of marks 1 and 2, 1 of mark 3, 2 of marks 4 and 5; a block has 0
+ *   a committed task is aired only if all that it is part of went through: below a block that failed or was turned down
+ *   it has the class of mark 5; else, below a block that is not committed, that of mark 2. Any block above counts, not
+ *   only the parent. The marks themselves do not change by this.
  *
  * Rules: one byte says by which rule an event passes, for a log. Its low hexadecimal digit is the event's code, its high
  * digit a kind: for offer, commit, abort, yes and no the kind of the node itself; for start, pick and turned down the kind
