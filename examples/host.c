@@ -208,6 +208,17 @@ static void agree(uint8_t *answers)
     }
 }
 
+/* Aired is a committed task below blocks that all committed, and nothing else. */
+static bool filed(const uint8_t *end, const uint8_t *classes)
+{
+    for (int v = 0; v < NODES; v++) {
+        bool through = DAY[v].kind == TASK && end[v] == 3;
+        for (int above = DAY[v].parent; above != 0xff; above = DAY[above].parent) through = through && end[above] == 3;
+        if ((classes[v] == 1) != through) return false;
+    }
+    return true;
+}
+
 static void print_records(const uint8_t *end, const uint8_t *classes, const uint8_t *pass)
 {
     printf("\nnode                        end record             single pass\n");
@@ -246,6 +257,7 @@ int main(int argc, char **argv)
     if (vulcedar_record(plan, sizeof plan, state, sizeof state, end, NODES, classes, NODES) != 0) fail("no record");
     print_records(end, classes, pass);
     printf("\n%u events, %u messages sent, %u dropped, %u doubled, %u lies\n", events, sent, dropped, doubled, lies);
+    if (!filed(end, classes)) fail("the classes are not those of the marks");
     if (memcmp(end, pass, NODES) != 0 || memcmp(end, marks, NODES) != 0) fail("the records differ");
     printf("the end record is the pass's\n");
     return 0;

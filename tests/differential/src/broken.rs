@@ -128,6 +128,22 @@ pub enum Mistake {
     TextPlanBeforeTable,
     /// A refused table is reported before the rest of the text is read.
     TextTableFirst,
+    /// A committed task is aired whatever became of the blocks above.
+    AiredInAnyBlock,
+    /// Of the blocks above a task only the parent counts.
+    OnlyTheParentCounts,
+    /// A task is aired below blocks that still run.
+    AiredBeforeTheEnd,
+    /// A block above that isn't through counts before one that is lost.
+    OpenBeforeLost,
+    /// Below a lost block a task has the class of one that failed.
+    LostAsFailed,
+    /// Below a lost block a running task too has the class of a lost one.
+    AllTasksOfALostBlock,
+    /// Below a lost block a table of the house doesn't count.
+    LostByTheUsualTable,
+    /// A task below a lost block gets the mark of one that was turned down.
+    LostTasksAreMarked,
     /// One level more than there may be.
     OneLevelMore,
     /// Parents are looked at before kinds.
@@ -144,7 +160,7 @@ pub enum Mistake {
 
 impl Mistake {
     /// All mistakes; the first is number 1.
-    pub const ALL: [Mistake; 65] = [
+    pub const ALL: [Mistake; 73] = [
         Mistake::CommitUnlessAbortHeard,
         Mistake::PickAtTheChild,
         Mistake::TurnedDownStillRuns,
@@ -204,6 +220,14 @@ impl Mistake {
         Mistake::TextTwoTables,
         Mistake::TextPlanBeforeTable,
         Mistake::TextTableFirst,
+        Mistake::AiredInAnyBlock,
+        Mistake::OnlyTheParentCounts,
+        Mistake::AiredBeforeTheEnd,
+        Mistake::OpenBeforeLost,
+        Mistake::LostAsFailed,
+        Mistake::AllTasksOfALostBlock,
+        Mistake::LostByTheUsualTable,
+        Mistake::LostTasksAreMarked,
         Mistake::OneLevelMore,
         Mistake::ParentsBeforeKinds,
         Mistake::DepthsFromZero,
@@ -320,6 +344,36 @@ impl Broken {
                 }
             }
             _ => {}
+        }
+    }
+
+    /// Files tasks below blocks that didn't go through as the mistake does.
+    fn misfile(&self, plan: &[u8], table: &[u8], marks: &mut [u8], classes: &mut [u8]) {
+        let tree = Tree::new(plan);
+        let class = |mark: u8| table[2 * usize::from(mark) + 1];
+        let is_lost = |mark: &u8| matches!(mark, 4 | 5);
+        for node in (0..classes.len()).filter(|&node| tree.kind(node) == TASK) {
+            let above: Vec<u8> = tree.above(node).iter().map(|&block| marks[block]).collect();
+            let lost = above.iter().any(is_lost);
+            let open = above.iter().any(|&mark| mark < 3);
+            let committed = marks[node] == 3;
+            match self.mistake {
+                Mistake::AiredInAnyBlock => classes[node] = class(marks[node]),
+                Mistake::OnlyTheParentCounts if committed => {
+                    classes[node] = match above.first() {
+                        Some(4 | 5) => class(5),
+                        Some(0..=2) => class(2),
+                        _ => class(3),
+                    }
+                }
+                Mistake::AiredBeforeTheEnd if committed && !lost => classes[node] = class(3),
+                Mistake::OpenBeforeLost if committed && open => classes[node] = class(2),
+                Mistake::LostAsFailed if committed && lost => classes[node] = class(4),
+                Mistake::AllTasksOfALostBlock if lost && marks[node] != 0 => classes[node] = class(5),
+                Mistake::LostByTheUsualTable if committed && lost => classes[node] = 2,
+                Mistake::LostTasksAreMarked if committed && lost => marks[node] = 5,
+                _ => {}
+            }
         }
     }
 
@@ -547,11 +601,8 @@ impl Implementation for Broken {
             Mistake::OfferedBeforeTurnedDown => {
                 marks.iter_mut().filter(|mark| **mark == 5).for_each(|mark| *mark = 2);
             }
-            Mistake::BlocksAreFiled => {
-                let filed = [0, 3, 3, 1, 2, 2];
-                classes.iter_mut().zip(marks).for_each(|(class, mark)| *class = filed[usize::from(*mark)]);
-            }
-            _ => {}
+            Mistake::BlocksAreFiled => file_blocks(plan, &tables::USUAL, marks, classes),
+            _ => self.misfile(plan, &tables::USUAL, marks, classes),
         }
         result
     }
@@ -572,14 +623,11 @@ impl Implementation for Broken {
         if result != 0 {
             return result;
         }
-        let class = |mark: u8| seen[2 * usize::from(mark) + 1];
         match self.mistake {
             Mistake::TableStays => self.last_table.copy_from_slice(&seen),
             Mistake::TableIgnored => return self.honest.record(plan, state, marks, classes),
-            Mistake::TableFilesBlocks => {
-                classes.iter_mut().zip(marks).for_each(|(filed, mark)| *filed = class(*mark));
-            }
-            _ => {}
+            Mistake::TableFilesBlocks => file_blocks(plan, &seen, marks, classes),
+            _ => self.misfile(plan, &seen, marks, classes),
         }
         result
     }
@@ -635,6 +683,13 @@ fn plan_before_text(text: &[u8]) -> Vec<u8> {
     match first {
         Some(output) if output.len() == 3 && output < b"07".to_vec() => output,
         _ => reference::rehearse(text),
+    }
+}
+
+/// Gives blocks the classes that tasks would have.
+fn file_blocks(plan: &[u8], table: &[u8], marks: &[u8], classes: &mut [u8]) {
+    for (node, class) in classes.iter_mut().enumerate().filter(|(node, _)| plan[2 * node] != TASK) {
+        *class = table[2 * usize::from(marks[node]) + 1];
     }
 }
 

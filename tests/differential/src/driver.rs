@@ -226,6 +226,11 @@ impl Tree {
         self.kinds[node]
     }
 
+    /// All blocks above a node, the nearest first.
+    pub fn above(&self, node: usize) -> Vec<usize> {
+        std::iter::successors(self.parents[node], |&block| self.parents[block]).collect()
+    }
+
     /// Whether the parent is an xor.
     pub fn is_below_xor(&self, node: usize) -> bool {
         self.parents[node].is_some_and(|parent| self.kinds[parent] == XOR)

@@ -114,16 +114,17 @@ impl<'a, S: Implementation, R: Implementation> Job<'a, S, R> {
     }
 
     /// An event has passed: the central rule must allow it, and come to the
-    /// marks that the record gives. And a run is never longer than five
-    /// events a node.
+    /// marks that the record gives, with their classes. And a run is never
+    /// longer than five events a node.
     fn follow(&mut self, code: u32, node: u32) -> Result<(), Parted> {
         let allowed = self.central(code, node, true);
         let run = self.driver.passed().len();
-        let marks = self.record();
-        let fits = allowed && marks == self.marks && run <= 5 * self.nodes;
+        let (marks, classes) = self.record();
+        let is_filed = classes == tables::classes(&self.tree, &tables::USUAL, &self.marks);
+        let fits = allowed && marks == self.marks && is_filed && run <= 5 * self.nodes;
         let same = self.trial.tally.compare(fits, || {
             let plan = hex(self.plan);
-            format!("no run of the central rule: plan {plan} after {run} events, code {code} node {node}")
+            format!("no run of the central rule, or not filed by it: plan {plan} after {run} events, code {code} node {node}")
         });
         self.require(same)
     }
@@ -138,11 +139,12 @@ impl<'a, S: Implementation, R: Implementation> Job<'a, S, R> {
         value(result) == 1
     }
 
-    /// Every node's mark, by the record of the state.
-    fn record(&mut self) -> Vec<u8> {
+    /// Every node's mark and class, by the record of the state.
+    fn record(&mut self) -> (Vec<u8>, Vec<u8>) {
         let (marks, classes) = (self.random.bytes(self.nodes), self.random.bytes(self.nodes));
         let state = self.state.subject.bytes();
-        self.trial.record(self.plan, state, &marks, &classes).1.to_vec()
+        let (_, marks, classes) = self.trial.record(self.plan, state, &marks, &classes);
+        (marks.to_vec(), classes.to_vec())
     }
 
     /// Small jobs are now and then held still, so that everybody knows
@@ -205,10 +207,8 @@ impl<'a, S: Implementation, R: Implementation> Job<'a, S, R> {
     }
 
     fn compare_with_pass(&mut self, answers: &[u8]) -> Result<(), Parted> {
-        let (marks, classes) = (self.random.bytes(self.nodes), self.random.bytes(self.nodes));
+        let (marks, classes) = self.record();
         let state = self.state.subject.bytes();
-        let (_, marks, classes) = self.trial.record(self.plan, state, &marks, &classes);
-        let (marks, classes) = (marks.to_vec(), classes.to_vec());
         let table = tables::sound(self.random);
         let own = self.trial.record_by(self.plan, &table, state, &marks, &classes).2.to_vec();
         let before = self.random.bytes(self.nodes);

@@ -44,11 +44,19 @@ pub fn any(random: &mut Random) -> Vec<u8> {
 }
 
 /// Every node's class by a sound table, from the marks of all: what a record
-/// must say. Blocks have none.
+/// must say. Blocks have none; a committed task counts as turned down below a
+/// block that is lost, and as offered below one that isn't through.
 pub fn classes(tree: &Tree, table: &[u8; 12], marks: &[u8]) -> Vec<u8> {
+    let filed_as = |node: usize| {
+        let above: Vec<u8> = tree.above(node).into_iter().map(|block| marks[block]).collect();
+        match marks[node] {
+            3 if above.contains(&4) || above.contains(&5) => 5,
+            3 if above.iter().any(|&mark| mark != 3) => 2,
+            mark => mark,
+        }
+    };
     let class = |mark: u8| table[2 * usize::from(mark) + 1];
-    let of = |(node, &mark): (usize, &u8)| if tree.kind(node) == TASK { class(mark) } else { 0 };
-    marks.iter().enumerate().map(of).collect()
+    (0..marks.len()).map(|node| if tree.kind(node) == TASK { class(filed_as(node)) } else { 0 }).collect()
 }
 
 #[cfg(test)]

@@ -65,6 +65,14 @@ fn a_mistake_on_both_sides_is_found() {
         Mistake::TableIgnored,
         Mistake::TableStays,
         Mistake::TableFilesBlocks,
+        Mistake::AiredInAnyBlock,
+        Mistake::OnlyTheParentCounts,
+        Mistake::AiredBeforeTheEnd,
+        Mistake::OpenBeforeLost,
+        Mistake::AllTasksOfALostBlock,
+        Mistake::LostAsFailed,
+        Mistake::LostByTheUsualTable,
+        Mistake::LostTasksAreMarked,
     ];
     let options = Options { seed: 15, steps: 1_000_000, texts: 0, enough: 1, only: None };
     for mistake in mistakes {

@@ -1,15 +1,54 @@
 //! The end record: every node's mark and filing class.
 
-use crate::mark;
-use crate::plan::{Kind, Plan};
+use crate::mark::{self, COMMITTED, FAILED, OFFERED, TURNED_DOWN};
+use crate::plan::{Kind, MAX_NODES, Plan};
 use crate::refusal::Refusal;
 use crate::table::{self, Table};
 
-/// The filing class of a node with this mark. Blocks are not filed.
-pub fn class(table: &Table, kind: Kind, mark: u8) -> u8 {
-    match kind {
-        Kind::Task => table.class(mark),
-        _ => table::NONE,
+/// What has become of all that a node is part of, the better first.
+#[derive(Clone, Copy, PartialEq, Eq, PartialOrd, Ord)]
+enum Above {
+    /// Every block above has committed.
+    Through,
+    /// One hasn't, but none is lost.
+    Open,
+    /// One has failed or was turned down.
+    Lost,
+}
+
+impl Above {
+    /// What a block's mark means for all below it.
+    fn of_block(mark: u8) -> Above {
+        match mark {
+            COMMITTED => Above::Through,
+            FAILED | TURNED_DOWN => Above::Lost,
+            _ => Above::Open,
+        }
+    }
+
+    /// The mark that a committed task is filed by.
+    fn filed_as(self) -> u8 {
+        match self {
+            Above::Through => COMMITTED,
+            Above::Open => OFFERED,
+            Above::Lost => TURNED_DOWN,
+        }
+    }
+}
+
+/// Writes every node's class by the table, from the marks of all; as many
+/// marks and classes as the plan has nodes. Blocks are not filed.
+pub fn file(table: &Table, plan: &Plan, marks: &[u8], classes: &mut [u8]) {
+    let mut above = [Above::Through; MAX_NODES];
+    for node in 0..plan.size() {
+        if let Some(parent) = plan.parent(node) {
+            above[node] = above[parent].max(Above::of_block(marks[parent]));
+        }
+        classes[node] = match (plan.kind(node), marks[node]) {
+            (Kind::Task, COMMITTED) => table.class(above[node].filed_as()),
+            (Kind::Task, mark) => table.class(mark),
+            _ => table::NONE,
+        };
     }
 }
 
@@ -27,9 +66,9 @@ pub fn record(
     if state.len() != size * size || marks.len() != size || classes.len() != size {
         return Err(Refusal::Length);
     }
-    for node in 0..size {
-        marks[node] = mark::of_heard(state[node * size + node]);
-        classes[node] = class(table, plan.kind(node), marks[node]);
+    for (node, mark) in marks.iter_mut().enumerate() {
+        *mark = mark::of_heard(state[node * size + node]);
     }
+    file(table, &plan, marks, classes);
     Ok(())
 }

@@ -97,9 +97,13 @@ fn each_mark_has_its_class_and_blocks_have_none() {
         job.all_know(code, node);
     }
     assert_eq!(job.marks(), [1, 1, 3, 2, 4, 1, 0]);
-    assert_eq!(job.classes_by(&table_of([0, 1, 2, 3, 0, 1])), [0, 0, 3, 2, 0, 1, 0]);
-    assert_eq!(job.classes_by(&table_of([0, 3, 1, 0, 2, 1])), [0, 0, 0, 1, 2, 3, 0]);
+    assert_eq!(job.classes_by(&table_of([0, 1, 2, 3, 0, 1])), [0, 0, 2, 2, 0, 1, 0]);
+    assert_eq!(job.classes_by(&table_of([0, 3, 1, 0, 2, 1])), [0, 0, 1, 1, 2, 3, 0]);
     job.all_know(TURNED_DOWN, 3);
-    assert_eq!(job.classes_by(&table_of([0, 1, 2, 3, 0, 1])), [0, 0, 3, 1, 0, 1, 0]);
-    assert_eq!(job.record().1, [0, 0, 1, 2, 2, 3, 0], "the tables before are forgotten");
+    assert_eq!(job.classes_by(&table_of([0, 1, 2, 3, 0, 1])), [0, 0, 2, 1, 0, 1, 0]);
+    assert_eq!(job.record().1, [0, 0, 3, 2, 2, 3, 0], "the tables before are forgotten");
+    for (code, node) in [(ABORT, 5), (START, 6), (ABORT, 6), (COMMIT, 1), (COMMIT, 0)] {
+        job.all_know(code, node);
+    }
+    assert_eq!(job.classes_by(&table_of([0, 1, 2, 3, 0, 1])), [0, 0, 3, 1, 0, 0, 0], "all has gone through");
 }

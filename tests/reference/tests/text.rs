@@ -119,9 +119,12 @@ const OWN: &str = "0000 0101 0202 0303 0400 0503 ==";
 fn a_table_before_the_plan() {
     let job = "02ff 0100 0100 -- 0100ff 010001 0101ff 0301ff 030102 0102ff 0402ff";
     let numbers = "00 00 00 00 00 00 00";
-    prints(lines(job), &format!("{numbers} 00020100 01010301 02010402"));
-    prints(lines(&format!("{USUAL} {job}")), &format!("{numbers} 00020100 01010301 02010402"));
-    prints(lines(&format!("{OWN} {job}")), &format!("{numbers} 00020100 01010303 02010400"));
+    prints(lines(job), &format!("{numbers} 00020100 01010303 02010402"));
+    prints(lines(&format!("{USUAL} {job}")), &format!("{numbers} 00020100 01010303 02010402"));
+    prints(lines(&format!("{OWN} {job}")), &format!("{numbers} 00020100 01010302 02010400"));
+    let ends_well = "02ff 0100 -- 0100ff 010001 0101ff 0301ff 030100 0300ff";
+    prints(lines(ends_well), "00 00 00 00 00 00 00020300 01010301");
+    prints(lines(&format!("{OWN} {ends_well}")), "00 00 00 00 00 00 00020300 01010303");
     prints(lines(&format!("{OWN} 01ff -- 0100ff")), "00 00010101");
 }
 
@@ -197,5 +200,5 @@ fn numbers_and_classes_of_all_marks() {
          0201ff 0202ff 0403ff
          020100 0701ff 070101 070102 0301ff 0802ff",
     );
-    prints(input, &format!("{} 00050100 01010301 02010502 03010402 04010103 05010000", "00 ".repeat(18)));
+    prints(input, &format!("{} 00050100 01010303 02010502 03010402 04010103 05010000", "00 ".repeat(18)));
 }
