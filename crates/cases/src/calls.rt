@@ -17,7 +17,7 @@ fn ruled(r: central::Ruling) -> usize {
     }
 }
 
-// Check, guard, step, hear, event or message, central rule, pass, record, list of steps, text.
+// Check, guard, step, hear, event or message, central rule, pass, record, list of steps, rewriting, text.
 pub fn call(
     letter: u8,
     plan: &[u8],
@@ -38,6 +38,7 @@ pub fn call(
         b'P' => plan::wide(pass::pass(plan, c, a)),
         b'R' => plan::wide(simulation::record(plan, c, a, b)),
         b'L' => plan::wide(simulation::run(plan, c, a, b)),
+        b'W' => plan::wide(rewrite::rewrite(plan, a)),
         _ => script::rehearse(c, a) % 65536 * 65536,
     }
 }
