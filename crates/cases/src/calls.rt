@@ -3,7 +3,7 @@
 // The guard's length.
 fn written(w: guard::Written) -> usize {
     match w {
-        guard::Written::Done(long) => long % 1000 * 65536,
+        guard::Written::Done(g) => g.length % 1000 * 65536,
         guard::Written::Refused(n) => n as usize,
     }
 }
