@@ -59,7 +59,7 @@ pub fn size(line: &[u8], list: &[u8]) -> usize
 
 // The byte given at a place.
 fn read(line: &[u8], i: usize) -> u8
-    requires { ⌜ i ≤ 65535 ⌝ }
+    requires { ⌜ i ≤ 65536 ⌝ }
 {
     if is_text(line) {
         let b = plan::byte_at(line, 10 + i);
@@ -70,7 +70,7 @@ fn read(line: &[u8], i: usize) -> u8
 
 // The byte that it has at a place: the last `unit` of those given are repeated.
 fn byte_of(line: &[u8], i: usize) -> u8
-    requires { ⌜ i ≤ 65535 ⌝ }
+    requires { ⌜ i ≤ 65536 ⌝ }
 {
     let n = given(line);
     let unit = plan::wide(pair(line, 7));
@@ -91,7 +91,7 @@ fn byte_of(line: &[u8], i: usize) -> u8
 }
 
 pub fn fill(line: &[u8], list: &mut [u8])
-    requires { ⌜ length (now list) ≤ 65535 ⌝ }
+    requires { ⌜ length (now list) ≤ 65536 ⌝ }
 {
     let mut i = 0;
     while i < list.len() {
@@ -102,7 +102,7 @@ pub fn fill(line: &[u8], list: &mut [u8])
 
 // How many bytes there are up to the last one that is not the line's.
 pub fn changed(line: &[u8], list: &[u8]) -> usize
-    requires { ⌜ length (now list) ≤ 65535 ⌝ }
+    requires { ⌜ length (now list) ≤ 65536 ⌝ }
 {
     let mut last = 0;
     let mut i = 0;

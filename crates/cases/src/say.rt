@@ -49,8 +49,8 @@ fn bytes(text: bool, list: &[u8], n: usize) {
 
 // Whether the lent bytes are as their lines say, or what they are now.
 pub fn lent(as_a: &[u8], a: &[u8], as_b: &[u8], b: &[u8])
-    requires { ⌜ length (now a) ≤ 65535 ⌝ }
-    requires { ⌜ length (now b) ≤ 65535 ⌝ }
+    requires { ⌜ length (now a) ≤ 65536 ⌝ }
+    requires { ⌜ length (now b) ≤ 65536 ⌝ }
 {
     let m = item::changed(as_a, a);
     let n = item::changed(as_b, b);
