@@ -29,17 +29,13 @@ pub fn wide(line: &[u8], at: usize) -> u32
     256 * (pair(line, at) as u32) + (pair(line, at + 2) as u32)
 }
 
-pub fn is_text(line: &[u8]) -> bool {
-    plan::byte_at(line, 1) == b'"'
-}
-
 // How many bytes the line gives.
 fn given(line: &[u8]) -> usize {
     let end = bytes::scan::find(line, 0, line.len(), b'\n');
     if end < 10 {
         return 0;
     }
-    if is_text(line) {
+    if plan::byte_at(line, 1) == b'"' {
         end - 10
     } else {
         (end - 10) / 2
@@ -61,7 +57,7 @@ pub fn size(line: &[u8], list: &[u8]) -> usize
 fn read(line: &[u8], i: usize) -> u8
     requires { ⌜ i ≤ 65536 ⌝ }
 {
-    if is_text(line) {
+    if plan::byte_at(line, 1) == b'"' {
         let b = plan::byte_at(line, 10 + i);
         return if b == b'/' { b'\n' } else { b };
     }

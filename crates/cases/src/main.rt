@@ -13,6 +13,7 @@ mod item;
 mod say;
 
 use libc::STDIN_FILENO;
+use libc::STDOUT_FILENO;
 ghost use Prim.Native.Nat.{_≤_};
 ghost use lib.ListN.{length};
 
@@ -37,7 +38,8 @@ fn tried(line: &[u8], as_a: &[u8], as_b: &[u8], plan: &[u8], c: &[u8], a: &mut [
 fn case(line: &[u8], as_plan: &[u8], as_a: &[u8], as_b: &[u8], as_c: &[u8]) {
     let letter = plan::byte_at(line, 0);
     if letter == b'#' {
-        say::heading(line);
+        say::words(line, 0);
+        io::write_all(STDOUT_FILENO, b"\n");
         return;
     }
     if letter < b'A' {
