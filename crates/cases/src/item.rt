@@ -29,17 +29,13 @@ pub fn wide(line: &[u8], at: usize) -> u32
     256 * (pair(line, at) as u32) + (pair(line, at + 2) as u32)
 }
 
-pub fn is_text(line: &[u8]) -> bool {
-    plan::byte_at(line, 1) == b'"'
-}
-
 // How many bytes the line gives.
 fn given(line: &[u8]) -> usize {
     let end = bytes::scan::find(line, 0, line.len(), b'\n');
     if end < 10 {
         return 0;
     }
-    if is_text(line) {
+    if plan::byte_at(line, 1) == b'"' {
         end - 10
     } else {
         (end - 10) / 2
@@ -59,9 +55,9 @@ pub fn size(line: &[u8], list: &[u8]) -> usize
 
 // The byte given at a place.
 fn read(line: &[u8], i: usize) -> u8
-    requires { ⌜ i ≤ 65535 ⌝ }
+    requires { ⌜ i ≤ 65536 ⌝ }
 {
-    if is_text(line) {
+    if plan::byte_at(line, 1) == b'"' {
         let b = plan::byte_at(line, 10 + i);
         return if b == b'/' { b'\n' } else { b };
     }
@@ -70,7 +66,7 @@ fn read(line: &[u8], i: usize) -> u8
 
 // The byte that it has at a place: the last `unit` of those given are repeated.
 fn byte_of(line: &[u8], i: usize) -> u8
-    requires { ⌜ i ≤ 65535 ⌝ }
+    requires { ⌜ i ≤ 65536 ⌝ }
 {
     let n = given(line);
     let unit = plan::wide(pair(line, 7));
@@ -91,7 +87,7 @@ fn byte_of(line: &[u8], i: usize) -> u8
 }
 
 pub fn fill(line: &[u8], list: &mut [u8])
-    requires { ⌜ length (now list) ≤ 65535 ⌝ }
+    requires { ⌜ length (now list) ≤ 65536 ⌝ }
 {
     let mut i = 0;
     while i < list.len() {
@@ -102,7 +98,7 @@ pub fn fill(line: &[u8], list: &mut [u8])
 
 // How many bytes there are up to the last one that is not the line's.
 pub fn changed(line: &[u8], list: &[u8]) -> usize
-    requires { ⌜ length (now list) ≤ 65535 ⌝ }
+    requires { ⌜ length (now list) ≤ 65536 ⌝ }
 {
     let mut last = 0;
     let mut i = 0;

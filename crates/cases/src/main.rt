@@ -13,13 +13,14 @@ mod item;
 mod say;
 
 use libc::STDIN_FILENO;
+use libc::STDOUT_FILENO;
 ghost use Prim.Native.Nat.{_≤_};
 ghost use lib.ListN.{length};
 
 // The call of a line, on a plan and handed bytes; a and b are lent as their lines say.
 fn tried(line: &[u8], as_a: &[u8], as_b: &[u8], plan: &[u8], c: &[u8], a: &mut [u8], b: &mut [u8])
-    requires { ⌜ length (now a) ≤ 65535 ⌝ }
-    requires { ⌜ length (now b) ≤ 65535 ⌝ }
+    requires { ⌜ length (now a) ≤ 65536 ⌝ }
+    requires { ⌜ length (now b) ≤ 65536 ⌝ }
 {
     item::fill(as_a, a);
     item::fill(as_b, b);
@@ -37,7 +38,8 @@ fn tried(line: &[u8], as_a: &[u8], as_b: &[u8], plan: &[u8], c: &[u8], a: &mut [
 fn case(line: &[u8], as_plan: &[u8], as_a: &[u8], as_b: &[u8], as_c: &[u8]) {
     let letter = plan::byte_at(line, 0);
     if letter == b'#' {
-        say::heading(line);
+        say::words(line, 0);
+        io::write_all(STDOUT_FILENO, b"\n");
         return;
     }
     if letter < b'A' {
@@ -46,10 +48,10 @@ fn case(line: &[u8], as_plan: &[u8], as_a: &[u8], as_b: &[u8], as_c: &[u8]) {
     if b'Z' < letter {
         return;
     }
-    let mut plan = [0u8; 322];
-    let mut a = [0u8; 16384];
-    let mut b = [0u8; 64];
-    let mut c = [0u8; 32769];
+    let mut plan = io::buffer();
+    let mut a = io::large_buffer();
+    let mut b = io::buffer();
+    let mut c = io::large_buffer();
     item::fill(as_plan, &mut plan);
     item::fill(as_c, &mut c);
     let n = item::size(as_plan, &plan);
@@ -82,7 +84,7 @@ fn noted(text: &[u8], at: usize, letter: u8, before: usize) -> usize
 
 // Each line in turn.
 fn lines(text: &[u8])
-    requires { ⌜ length (now text) ≤ 65535 ⌝ }
+    requires { ⌜ length (now text) ≤ 65536 ⌝ }
 {
     let end = text.len();
     let mut p = end;
@@ -101,7 +103,7 @@ fn lines(text: &[u8])
 }
 
 fn main() {
-    let mut text = [0u8; 65535];
+    let mut text = io::large_buffer();
     let n = io::read_full(STDIN_FILENO, &mut text);
     lines(&text[..n]);
 }

@@ -12,11 +12,6 @@ pub fn words(line: &[u8], from: usize) {
     }
 }
 
-pub fn heading(line: &[u8]) {
-    words(line, 0);
-    io::write_all(STDOUT_FILENO, b"\n");
-}
-
 // The number answered, and the value if there is one.
 pub fn answer(n: usize) {
     io::write_all(STDOUT_FILENO, b" ");
@@ -49,8 +44,8 @@ fn bytes(text: bool, list: &[u8], n: usize) {
 
 // Whether the lent bytes are as their lines say, or what they are now.
 pub fn lent(as_a: &[u8], a: &[u8], as_b: &[u8], b: &[u8])
-    requires { ⌜ length (now a) ≤ 65535 ⌝ }
-    requires { ⌜ length (now b) ≤ 65535 ⌝ }
+    requires { ⌜ length (now a) ≤ 65536 ⌝ }
+    requires { ⌜ length (now b) ≤ 65536 ⌝ }
 {
     let m = item::changed(as_a, a);
     let n = item::changed(as_b, b);
@@ -58,11 +53,11 @@ pub fn lent(as_a: &[u8], a: &[u8], as_b: &[u8], b: &[u8])
         io::write_all(STDOUT_FILENO, b" left");
     }
     if 0 < m {
-        bytes(item::is_text(as_a), a, m);
+        bytes(plan::byte_at(as_a, 1) == b'"', a, m);
     }
     if 0 < n {
         io::write_all(STDOUT_FILENO, b", second");
-        bytes(item::is_text(as_b), b, n);
+        bytes(plan::byte_at(as_b, 1) == b'"', b, n);
     }
     io::write_all(STDOUT_FILENO, b"\n");
 }

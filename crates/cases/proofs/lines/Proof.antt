@@ -1,4 +1,4 @@
--- Every line noted begins in the text, and the next line begins later. Assumes nothing.
+-- Every line noted begins in the text; the next begins later. Assumes nothing.
 use mathlib.Core.Path.{_≡_}
 use Prim.Native.Nat.{_-_, _≤_}
 use lib.ListN.{length}
