@@ -6,7 +6,10 @@
  * vulcedar_hear. An auditor replays every step in one simulation and replays the events against the central rule. When
  * nothing can happen any more, the end record is printed beside the one of a single pass.
  *
- * usage: host [seed]      exit status 0 if the two records are the same
+ * With `old` the plan is taken as one from before kind 08, when an and-block waited for all its children: it is rewritten
+ * first, and the block of the two live desks waits for both of them before it fails.
+ *
+ * usage: host [seed [old]]      exit status 0 if the two records are the same
  */
 #include <stdbool.h>
 #include <stdio.h>
@@ -16,7 +19,7 @@
 #include "vulcedar.h"
 
 enum { START = 1, OFFER, COMMIT, ABORT, YES, NO, PICK, DOWN };
-enum { TASK = 1, SERIAL, AND, OR, XOR, CONTINGENCY, CONDITIONAL };
+enum { TASK = 1, SERIAL, AND, OR, XOR, CONTINGENCY, CONDITIONAL, WAITING_AND };
 
 /* What a line of the plan is for. The second byte is the number of the parent. */
 static const struct { uint8_t kind, parent; const char *name; } DAY[] = {
@@ -201,12 +204,23 @@ static void print_records(const uint8_t *end, const uint8_t *classes, const uint
         printf("%2d  %-22s  %-12s %-8s  %s\n", v, DAY[v].name, MARK[end[v]], CLASS[classes[v]], MARK[pass[v]]);
 }
 
+/* The plan as it was meant before kind 08. */
+static void rewrite(void)
+{
+    uint8_t old[sizeof plan];
+    memcpy(old, plan, sizeof plan);
+    if (vulcedar_rewrite(old, sizeof old, plan, sizeof plan) != 0) fail("the plan is not rewritten");
+    for (int v = 0; v < NODES; v++)
+        if (plan[2 * v] != (DAY[v].kind == AND ? WAITING_AND : DAY[v].kind) || plan[2 * v + 1] != DAY[v].parent) fail("the rewritten plan is another");
+}
+
 int main(int argc, char **argv)
 {
     uint8_t answers[NODES], pass[NODES], end[NODES], classes[NODES];
     if (argc > 1) seed = (uint32_t)strtoul(argv[1], NULL, 10);
     for (int v = 0; v < NODES; v++) plan[2 * v] = DAY[v].kind, plan[2 * v + 1] = DAY[v].parent;
     if (vulcedar_check(plan, sizeof plan) != 0) fail("the plan is refused");
+    if (argc > 2 && strcmp(argv[2], "old") == 0) rewrite();
 
     bool open = true, informed = false;
     while (open || !informed) {

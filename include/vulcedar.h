@@ -6,7 +6,9 @@
  * host uses it, docs/RULES.md has every rule.
  *
  * Plan bytes: two for each node, kind and parent number; nodes are numbered from 0 in the order of the bytes.
- *   kinds: 01 task, 02 serial, 03 and, 04 or, 05 xor, 06 contingency, 07 conditional
+ *   kinds: 01 task, 02 serial, 03 and, 04 or, 05 xor, 06 contingency, 07 conditional, 08 waiting and
+ *   03 and 08 both need all their children: 03 may abort as soon as one child has, while others run or have not begun;
+ *   08 only when every child has committed or aborted. Children of a failed block may still start and end.
  *   node 0 is the root, its parent byte is ff; any other parent number is below the node's own
  *   1 to 160 nodes; a task has no children, a conditional 2, any other block 1 to 32; depth at most 32
  *
@@ -31,7 +33,7 @@
  *
  * Numbers, with the lowest that fits answered first unless a function says otherwise:
  *    1  plan length odd, 0 or above 320            8  code not 1 to 8, or node or site not in the plan
- *    2  a kind not 01 to 07                        9  the event does not apply to the node
+ *    2  a kind not 01 to 08                        9  the event does not apply to the node
  *    3  root's parent not ff, or another's not     10  barred: it happened already, or what rules it out did
  *       below its own number                       11  the guard does not hold: what it waits for is not heard
  *    4  a parent is a task                         12  message of an event that did not happen (simulation only)
@@ -66,6 +68,13 @@ extern "C" {
 
 /* Checks a plan: 0, or 1 to 6. */
 uint32_t vulcedar_check(const uint8_t *plan, size_t plan_len);
+
+/*
+ * For plans made when kind 03 still waited: writes the plan to out with every kind 03 made 08 and every other byte as it
+ * is, so that each of its events waits for what it waited for then. A kind 08 stays. 1 to 6, then 7 if out_len is not
+ * plan_len. out is written only on 0. Call it once for such a plan, and use the result at every site.
+ */
+uint32_t vulcedar_rewrite(const uint8_t *plan, size_t plan_len, uint8_t *out, size_t out_len);
 
 /*
  * Writes what an event waits for to the front of buf: the number of clauses; for each clause its number of events, then

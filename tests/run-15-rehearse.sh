@@ -1,5 +1,5 @@
 #!/usr/bin/env bash
-# The program rehearse from outside: the example of a captioning day, the text limit, and input that is no text.
+# The program rehearse from outside: the examples (a captioning day, an and-block that ends early), the text limit, and input that is no text.
 set -euo pipefail
 cd "$(dirname "$0")/.."
 rehearse=target/bin/rehearse
@@ -7,7 +7,9 @@ rehearse=target/bin/rehearse
 work=$(mktemp -d)
 trap 'rm -rf "$work"' EXIT
 
-"$rehearse" < examples/captioning-day.txt | diff examples/captioning-day.out -
+for example in captioning-day early-end; do
+  "$rehearse" < "examples/$example.txt" | diff "examples/$example.out" -
+done
 
 # 32,768 bytes are read: a task, and its start 4,680 times; one byte more is 15, found before anything else
 { printf '01ff\n--\n'; printf '0100ff\n%.0s' $(seq 4680); } > "$work/full"
@@ -26,4 +28,4 @@ trap 'rm -rf "$work"' EXIT
 [ "$(printf '09ff\n--\n0100ff\n' | "$rehearse")" = 02 ]
 head -c 100000 /dev/urandom > "$work/noise"
 [ "$("$rehearse" < "$work/noise")" = 0f ]
-echo "rehearse: the example and the limits are as stated"
+echo "rehearse: the examples and the limits are as stated"

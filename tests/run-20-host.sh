@@ -1,5 +1,5 @@
 #!/usr/bin/env bash
-# The example host in C: compiled with every warning an error, run under the sanitizers for many seeds, and once under valgrind where it is there.
+# The example host in C: compiled with every warning an error, run under the sanitizers for many seeds, each with the plan as it is and as an old one, and once under valgrind where it is there.
 set -euo pipefail
 cd "$(dirname "$0")/.."
 out=target/host
@@ -10,9 +10,10 @@ gcc "${flags[@]}" -O2 examples/host.c target/staticlib/libvulcedar.a -o "$out/ho
 g++ -Wall -Wextra -Werror -fsyntax-only -x c++ include/vulcedar.h
 for seed in $(seq 1 50); do
   timeout 60 "$out/host-san" "$seed" > "$out/$seed.txt" || { tail -n 5 "$out/$seed.txt"; exit 1; }
+  timeout 60 "$out/host-san" "$seed" old > "$out/$seed-old.txt" || { tail -n 5 "$out/$seed-old.txt"; exit 1; }
 done
 if command -v valgrind > /dev/null; then
   valgrind -q --error-exitcode=1 --leak-check=full "$out/host" 7 > "$out/valgrind.txt"
 fi
 tail -n 22 "$out/1.txt"
-echo "host: 50 jobs over a bad line, every end record is the pass's"
+echo "host: 100 jobs over a bad line, every end record is the pass's"

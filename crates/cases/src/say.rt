@@ -1,118 +1,68 @@
-// Printing: words, numbers, bytes, and whether lent bytes were left.
-use crate::canary;
+// Printing.
+use crate::item;
 use libc::STDOUT_FILENO;
+ghost use Prim.Native.Nat.{_≤_};
+ghost use lib.ListN.{length};
 
-pub fn words(text: &[u8]) {
-    io::write_all(STDOUT_FILENO, text);
+// A line's words from a column on.
+pub fn words(line: &[u8], from: usize) {
+    let end = bytes::scan::find(line, 0, line.len(), b'\n');
+    if from <= end {
+        io::write_all(STDOUT_FILENO, &line[from..end]);
+    }
 }
 
-pub fn number(n: usize) {
-    io::print_decimal(STDOUT_FILENO, n as u64);
+pub fn heading(line: &[u8]) {
+    words(line, 0);
+    io::write_all(STDOUT_FILENO, b"\n");
 }
 
-// The first n bytes, two hexadecimal digits each.
-fn front(list: &[u8], n: usize) {
+// The number answered, and the value if there is one.
+pub fn answer(n: usize) {
+    io::write_all(STDOUT_FILENO, b" ");
+    io::print_decimal(STDOUT_FILENO, (n % 65536) as u64);
+    if 65536 <= n {
+        io::write_all(STDOUT_FILENO, b" (");
+        io::print_decimal(STDOUT_FILENO, (n / 65536) as u64);
+        io::write_all(STDOUT_FILENO, b")");
+    }
+}
+
+// The first n bytes: as text, its first line.
+fn bytes(text: bool, list: &[u8], n: usize) {
+    io::write_all(STDOUT_FILENO, b" ");
     let mut i = 0;
     while i < n {
-        io::print_hex(STDOUT_FILENO, plan::byte_at(list, i) as u64, 2);
-        i += 1;
-    }
-}
-
-pub fn bytes(list: &[u8]) {
-    front(list, list.len());
-}
-
-// A name and the bytes that it stands for.
-pub fn named(name: &[u8], list: &[u8]) {
-    words(name);
-    words(b" is the plan ");
-    bytes(list);
-    words(b"\n");
-}
-
-// A case and the number answered.
-pub fn line(label: &[u8], n: u8) {
-    line_start(label, n);
-    words(b"\n");
-}
-
-// The number that a call answered, and whether it left what was lent.
-pub fn answer(call: &[u8], n: u8, left: bool) {
-    words(call);
-    number(n as usize);
-    if left {
-        words(b" left");
-    } else {
-        words(b" CHANGED");
-    }
-}
-
-// What lent bytes are now: `left` where they are as before, else the bytes.
-pub fn lent(name: &[u8], left: bool, after: &[u8]) {
-    words(name);
-    if left {
-        words(b" left\n");
-        return;
-    }
-    words(b" ");
-    bytes(after);
-    words(b"\n");
-}
-
-pub fn same(a: &[u8], b: &[u8]) -> bool {
-    if a.len() != b.len() {
-        return false;
-    }
-    let mut i = 0;
-    while i < a.len() {
-        if a[i] != b[i] {
-            return false;
+        let b = plan::byte_at(list, i);
+        if text {
+            if b == b'\n' {
+                return;
+            }
+            let one = [b];
+            io::write_all(STDOUT_FILENO, &one);
+        } else {
+            io::print_hex(STDOUT_FILENO, b as u64, 2);
         }
         i += 1;
     }
-    true
 }
 
-pub fn rest(left: bool) {
-    if left {
-        words(b", the rest left\n");
-    } else {
-        words(b", the rest CHANGED\n");
+// Whether the lent bytes are as their lines say, or what they are now.
+pub fn lent(as_a: &[u8], a: &[u8], as_b: &[u8], b: &[u8])
+    requires { ⌜ length (now a) ≤ 65535 ⌝ }
+    requires { ⌜ length (now b) ≤ 65535 ⌝ }
+{
+    let m = item::changed(as_a, a);
+    let n = item::changed(as_b, b);
+    if m == 0 && n == 0 {
+        io::write_all(STDOUT_FILENO, b" left");
     }
-}
-
-// The first bytes of a buffer with the canary's pattern, and whether the others were left.
-pub fn written(buf: &[u8], n: usize) {
-    front(buf, n);
-    rest(canary::left(buf, n));
-}
-
-// Bytes up to the first line feed.
-pub fn first_line(text: &[u8]) {
-    let mut i = 0;
-    while i < text.len() {
-        if text[i] == b'\n' {
-            return;
-        }
-        let one = [text[i]];
-        words(&one);
-        i += 1;
+    if 0 < m {
+        bytes(item::is_text(as_a), a, m);
     }
-}
-
-// A case and the number answered; the line goes on.
-pub fn line_start(label: &[u8], n: u8) {
-    words(label);
-    words(b": ");
-    number(n as usize);
-}
-
-// A case with the bytes that were given, and the number answered.
-pub fn given(label: &[u8], name: &[u8], list: &[u8], n: u8) {
-    words(label);
-    words(name);
-    bytes(list);
-    words(b": ");
-    number(n as usize);
+    if 0 < n {
+        io::write_all(STDOUT_FILENO, b", second");
+        bytes(item::is_text(as_b), b, n);
+    }
+    io::write_all(STDOUT_FILENO, b"\n");
 }

@@ -59,6 +59,10 @@ serial-and : (k : ℕ) (s : Central) (v : ℕ) (cs : List ℕ) → 2 ≤ k → k
 unfolding finishesBy kindOf
 serial-and k s v cs a b = ⊎-elim (λ h. rw h) (λ h. rw h) (two 2 k a b)
 
+serial-and-fails : (k : ℕ) (s : Central) (v : ℕ) (cs : List ℕ) → 2 ≤ k → k ≤ 3 → failsBy (kindOf k) s v cs ≡ any (marked s failed) cs
+unfolding failsBy kindOf
+serial-and-fails k s v cs a b = ⊎-elim (λ h. rw h) (λ h. rw h) (two 2 k a b)
+
 or-to-contingency : (k : ℕ) (s : Central) (v : ℕ) (cs : List ℕ) → 4 ≤ k → k ≤ 6 → failsBy (kindOf k) s v cs ≡ all (marked s failed) cs
 unfolding failsBy kindOf
 or-to-contingency k s v cs a b = ⊎-elim (λ h. rw h) (⊎-elim (λ h. rw h) (λ h. rw h)) (three 4 k a b)
@@ -90,21 +94,24 @@ module _ (p marks notes : List ℕ) (v k : ℕ) (e : k ≡ kindByte p v) where
   unfolding finishesBy kindOf
   finish-branch h = sym (finish-kind ∙ rw (h, in-committed marks notes, answer-read marks notes v))
 
-  pub finish-task : (2 ≤ k → k ≤ 7 → ⊥) → true ≡ finishesBy (kind p v) (stateOf marks notes) v (children p v)
+  pub finish-waiting : k ≡ 8 → all (markIn 8 marks) (children p v) ≡ finishesBy (kind p v) (stateOf marks notes) v (children p v)
+  unfolding finishesBy kindOf
+  finish-waiting h = sym (finish-kind ∙ rw (h, in-committed marks notes))
+
+  pub finish-task : (2 ≤ k → k ≤ 8 → ⊥) → true ≡ finishesBy (kind p v) (stateOf marks notes) v (children p v)
   unfolding finishesBy
   finish-task h = sym (finish-kind ∙ rw (kind-other k h))
 
   fail-kind : failsBy (kind p v) (stateOf marks notes) v (children p v) ≡ failsBy (kindOf k) (stateOf marks notes) v (children p v)
   fail-kind = rw (kind-byte p v, e)
 
-  pub fail-any : k ≡ 2 → any (markIn 16 marks) (children p v) ≡ failsBy (kind p v) (stateOf marks notes) v (children p v)
-  unfolding failsBy kindOf
-  fail-any h = sym (fail-kind ∙ rw (h, in-failed marks notes))
+  pub fail-any : 2 ≤ k → k ≤ 3 → any (markIn 16 marks) (children p v) ≡ failsBy (kind p v) (stateOf marks notes) v (children p v)
+  fail-any a b = sym (fail-kind ∙ rw (in-failed marks notes) (serial-and-fails k (stateOf marks notes) v (children p v) a b))
 
-  pub fail-and : k ≡ 3 →
+  pub fail-waiting : k ≡ 8 →
       (all (markIn 24 marks) (children p v) && any (markIn 16 marks) (children p v)) ≡ failsBy (kind p v) (stateOf marks notes) v (children p v)
   unfolding failsBy kindOf
-  fail-and h = sym (fail-kind ∙ rw (h, in-ended marks notes, in-failed marks notes))
+  fail-waiting h = sym (fail-kind ∙ rw (h, in-ended marks notes, in-failed marks notes))
 
   pub fail-all : 4 ≤ k → k ≤ 6 → all (markIn 16 marks) (children p v) ≡ failsBy (kind p v) (stateOf marks notes) v (children p v)
   fail-all a b = sym (fail-kind ∙ rw (in-failed marks notes) (or-to-contingency k (stateOf marks notes) v (children p v) a b))
@@ -114,7 +121,7 @@ module _ (p marks notes : List ℕ) (v k : ℕ) (e : k ≡ kindByte p v) where
   unfolding failsBy kindOf
   fail-branch h = sym (fail-kind ∙ rw (h, in-failed marks notes, answer-read marks notes v))
 
-  pub fail-task : (2 ≤ k → k ≤ 7 → ⊥) → true ≡ failsBy (kind p v) (stateOf marks notes) v (children p v)
+  pub fail-task : (2 ≤ k → k ≤ 8 → ⊥) → true ≡ failsBy (kind p v) (stateOf marks notes) v (children p v)
   unfolding failsBy
   fail-task h = sym (fail-kind ∙ rw (kind-other k h))
 

@@ -47,7 +47,11 @@ module _ (p marks notes : List ℕ) (u v k : ℕ) (e : k ≡ kindByte p u) (l : 
   pub reached-free : 3 ≤ k → k ≤ 5 → true ≡ reachedBy (kind p u) (stateOf marks notes) u (children p u) v
   reached-free a b = sym (by-kind ∙ free k (stateOf marks notes) u v (children p u) a b)
 
-  pub reached-other : (2 ≤ k → k ≤ 7 → ⊥) → false ≡ reachedBy (kind p u) (stateOf marks notes) u (children p u) v
+  pub reached-waiting : k ≡ 8 → true ≡ reachedBy (kind p u) (stateOf marks notes) u (children p u) v
+  unfolding reachedBy kindOf
+  reached-waiting h = sym (by-kind ∙ rw h)
+
+  pub reached-other : (2 ≤ k → k ≤ 8 → ⊥) → false ≡ reachedBy (kind p u) (stateOf marks notes) u (children p u) v
   unfolding reachedBy
   reached-other h = sym (by-kind ∙ rw (kind-other k h))
 

@@ -24,7 +24,7 @@ three m n a b = cases (decided (eqb n m)) (λ e. inl (eqb-true n m e)) (λ e. le
 pub past : (n k : ℕ) → n < k → (k ≡ n + 1 → ⊥) → n + 1 < k
 past n k l h = omega arith
 
-pub past-kinds : (k : ℕ) → 7 < k → 2 ≤ k → k ≤ 7 → ⊥
+pub past-kinds : (k : ℕ) → 8 < k → 2 ≤ k → k ≤ 8 → ⊥
 past-kinds k h a b = omega arith
 
 -- the code that is left

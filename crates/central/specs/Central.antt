@@ -4,7 +4,7 @@ use mathlib.Core.List.{List, [], _∷_}
 use Prim.Native.Nat.{ℕ}
 use lib.Dec.{eqb, ltb}
 use Rattle.lists.specs.Seq.{all, any, earlier}
-use Rattle.plan.specs.Plan.{Kind, task, serial, and, or, xor, contingency, conditional, kind, parent, children, others, above, inXor}
+use Rattle.plan.specs.Plan.{Kind, task, serial, and, or, xor, contingency, conditional, waiting, kind, parent, children, others, above, inXor}
 use Rattle.event.specs.Event.{Code, start, offer, commit, abort, answered-yes, answered-no, pick, down, Event, applies}
 use Rattle.central.specs.Mark.{Mark, idle, running, offered, committed, failed, turned-down, isMark}
 
@@ -95,6 +95,7 @@ reachedBy or s u cs v = true
 reachedBy xor s u cs v = true
 reachedBy contingency s u cs v = all (marked s failed) (earlier cs v)
 reachedBy conditional s u cs v = cond (any (λ c. ltb c v) cs) (isNo (s .answer u)) (isYes (s .answer u))
+reachedBy waiting s u cs v = true
 
 -- E2: the root may start, another node if its parent is started and its place reached
 unfoldable pub mayStart : List ℕ → Central → ℕ → Bool
@@ -119,16 +120,18 @@ finishesBy xor s v cs =
     all (λ c. marked s committed c || marked s failed c || marked s turned-down c) cs && any (marked s committed) cs
 finishesBy contingency s v cs = any (marked s committed) cs
 finishesBy conditional s v cs = ofBranch (marked s committed) (s .answer v) cs
+finishesBy waiting s v cs = all (marked s committed) cs
 
 -- E5: v's children cs, by its kind, let v fail
 unfoldable pub failsBy : Kind → Central → ℕ → List ℕ → Bool
 failsBy task s v cs = true
 failsBy serial s v cs = any (marked s failed) cs
-failsBy and s v cs = all (λ c. marked s committed c || marked s failed c) cs && any (marked s failed) cs
+failsBy and s v cs = any (marked s failed) cs
 failsBy or s v cs = all (marked s failed) cs
 failsBy xor s v cs = all (marked s failed) cs
 failsBy contingency s v cs = all (marked s failed) cs
 failsBy conditional s v cs = ofBranch (marked s failed) (s .answer v) cs
+failsBy waiting s v cs = all (λ c. marked s committed c || marked s failed c) cs && any (marked s failed) cs
 
 -- E2 to E7, by code. To finish is to commit, and for an xor's child to offer (E6); it commits once it is picked (E7). No event can happen
 -- to a node twice (E8): its mark, its answer or a pick then stands against it.

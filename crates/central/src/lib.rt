@@ -174,6 +174,7 @@ fn reached(plan: &[u8], marks: &[u8], notes: &[u8], u: u8, v: u8) -> bool
                 answer(notes, u) == 2
             }
         }
+        8 => true,
         _ => false,
     }
 }
@@ -207,6 +208,7 @@ fn finishes(plan: &[u8], marks: &[u8], notes: &[u8], v: u8) -> bool
         5 => every(plan, marks, v, SETTLED) && some(plan, marks, v, COMMITTED),
         6 => some(plan, marks, v, COMMITTED),
         7 => branch(plan, marks, notes, v, COMMITTED),
+        8 => every(plan, marks, v, COMMITTED),
         _ => true,
     }
 }
@@ -217,10 +219,10 @@ fn fails(plan: &[u8], marks: &[u8], notes: &[u8], v: u8) -> bool
     ensures { λ r. let p = now (plan .entry) in ⌜ r ≡ failsBy (kind p v) (stateOf (now (marks .entry)) (now (notes .entry))) v (children p v) ⌝ }
 {
     match plan::kind(plan, v) {
-        2 => some(plan, marks, v, FAILED),
-        3 => every(plan, marks, v, ENDED) && some(plan, marks, v, FAILED),
+        2..=3 => some(plan, marks, v, FAILED),
         4..=6 => every(plan, marks, v, FAILED),
         7 => branch(plan, marks, notes, v, FAILED),
+        8 => every(plan, marks, v, ENDED) && some(plan, marks, v, FAILED),
         _ => true,
     }
 }

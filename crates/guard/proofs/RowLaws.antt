@@ -64,9 +64,9 @@ module _ (cs : List ℕ) where
   unfolding rowBytes firstBytes moreOf anyPart codeNumber
   xor-row = record { few = omega arith; bytes = sym (encode-each-any (commit ∷ abort ∷ down ∷ []) cs commit cs) }
 
-  and-abort-row : RowOf (row 3 0 2 4) cs (each (commit ∷ abort ∷ []) cs ++ anyOf abort cs)
+  waiting-abort-row : RowOf (row 3 0 2 4) cs (each (commit ∷ abort ∷ []) cs ++ anyOf abort cs)
   unfolding rowBytes firstBytes moreOf anyPart codeNumber
-  and-abort-row = record { few = omega arith; bytes = sym (encode-each-any (commit ∷ abort ∷ []) cs abort cs) }
+  waiting-abort-row = record { few = omega arith; bytes = sym (encode-each-any (commit ∷ abort ∷ []) cs abort cs) }
 
   down-row : (v : ℕ) → RowOf (row 2 v 0 7) cs (one offer v ++ anyOf pick cs)
   unfolding rowBytes firstBytes moreOf anyPart eachClause clause pairs codeNumber
@@ -94,7 +94,11 @@ module _ (k v : ℕ) (cs : List ℕ) where
   unfolding kindOf finishBy
   finish-any a b = ⊎-elim (λ e. rw e (any-commit-row cs)) (λ e. rw e (any-commit-row cs)) (two 6 k a b)
 
-  pub finish-task : (2 ≤ k → k ≤ 7 → ⊥) → RowOf (row 1 v 0 0) cs (finishBy (kindOf k) v cs)
+  pub finish-waiting : k ≡ 8 → RowOf (row 3 0 1 0) cs (finishBy (kindOf k) v cs)
+  unfolding kindOf finishBy
+  finish-waiting e = rw e (commit-row cs)
+
+  pub finish-task : (2 ≤ k → k ≤ 8 → ⊥) → RowOf (row 1 v 0 0) cs (finishBy (kindOf k) v cs)
   unfolding finishBy codeNumber
   finish-task h = rw (kind-other k h) (one-row cs start v)
 
@@ -102,9 +106,13 @@ module _ (k v : ℕ) (cs : List ℕ) where
   unfolding kindOf abortBy
   abort-any h = ⊎-elim (λ e. rw e (any-abort-row cs)) (λ e. rw e (any-abort-row cs)) h
 
-  pub abort-and : k ≡ 3 → RowOf (row 3 0 2 4) cs (abortBy (kindOf k) v cs)
+  pub abort-and : k ≡ 3 → RowOf (row 0 0 0 4) cs (abortBy (kindOf k) v cs)
   unfolding kindOf abortBy
-  abort-and e = rw e (and-abort-row cs)
+  abort-and e = rw e (any-abort-row cs)
+
+  pub abort-waiting : k ≡ 8 → RowOf (row 3 0 2 4) cs (abortBy (kindOf k) v cs)
+  unfolding kindOf abortBy
+  abort-waiting e = rw e (waiting-abort-row cs)
 
   pub abort-each : 4 ≤ k → k ≤ 5 → RowOf (row 4 0 1 0) cs (abortBy (kindOf k) v cs)
   unfolding kindOf abortBy
@@ -114,7 +122,7 @@ module _ (k v : ℕ) (cs : List ℕ) where
   unfolding kindOf abortBy codeNumber
   abort-contingency is e = rw (e, is) (one-row cs abort (lastOr v cs))
 
-  pub abort-task : (2 ≤ k → k ≤ 7 → ⊥) → RowOf (row 1 v 0 0) cs (abortBy (kindOf k) v cs)
+  pub abort-task : (2 ≤ k → k ≤ 8 → ⊥) → RowOf (row 1 v 0 0) cs (abortBy (kindOf k) v cs)
   unfolding abortBy codeNumber
   abort-task h = rw (kind-other k h) (one-row cs start v)
 
@@ -126,7 +134,11 @@ module _ (k u : ℕ) (cs : List ℕ) (v : ℕ) where
       let o = one-row cs start u in
       ⊎-elim (λ e. rw (← e) o) (λ (l : 3 < k). ⊎-elim (λ e. rw e o) (λ e. rw e o) (two 4 k l b)) (eq-or-lt-of-le a)
 
-  pub start-root : (2 ≤ k → k ≤ 7 → ⊥) → RowOf (row 0 0 0 0) cs (startBy (kindOf k) u cs v)
+  pub start-waiting : k ≡ 8 → RowOf (row 1 u 0 0) cs (startBy (kindOf k) u cs v)
+  unfolding kindOf startBy codeNumber
+  start-waiting e = rw e (one-row cs start u)
+
+  pub start-root : (2 ≤ k → k ≤ 8 → ⊥) → RowOf (row 0 0 0 0) cs (startBy (kindOf k) u cs v)
   unfolding startBy
   start-root h = rw (kind-other k h) (none-row cs)
 

@@ -10,7 +10,7 @@ use lib.ListN.{length, length-append}
 use Rattle.lists.proofs.Logic.{cases, decided}
 use Rattle.lists.proofs.Members.{none-in}
 use Rattle.lists.proofs.Keep.{keep-short}
-use Rattle.plan.specs.Plan.{Kind, task, serial, and, or, xor, contingency, conditional, size, kind, above, inXor, parent, children, others}
+use Rattle.plan.specs.Plan.{Kind, task, serial, and, or, xor, contingency, conditional, waiting, size, kind, above, inXor, parent, children, others}
 use Rattle.plan.specs.Check.{Accepted}
 use Rattle.plan.proofs.AcceptedLaws.{child-between}
 use Rattle.event.specs.Event.{Code, start, offer, commit, abort, answered-yes, answered-no, pick, down, Event, codeNumber}
@@ -61,6 +61,7 @@ start-fits or u cs v = one-fits _ _
 start-fits xor u cs v = one-fits _ _
 start-fits contingency u cs v = cond-fits (isFirst cs v) _ _ (one-fits start u) (one-fits abort (beforeIn v cs v))
 start-fits conditional u cs v = cond-fits (isFirst cs v) _ _ (one-fits answered-yes u) (one-fits answered-no u)
+start-fits waiting u cs v = one-fits _ _
 
 module _ (v : ℕ) (cs : List ℕ) (few : length cs ≤ 32) where
   any-fits : (k : Code) → Short (anyOf k cs)
@@ -75,16 +76,18 @@ module _ (v : ℕ) (cs : List ℕ) (few : length cs ≤ 32) where
   finish-fits xor = each-any-fits (commit ∷ abort ∷ down ∷ []) cs _ cs (omega arith) few few
   finish-fits contingency = any-fits _
   finish-fits conditional = any-fits _
+  finish-fits waiting = each-fits (commit ∷ []) cs (omega arith) few
 
   abort-fits : (k : Kind) → Short (abortBy k v cs)
   unfolding abortBy
   abort-fits task = one-fits _ _
   abort-fits serial = any-fits _
-  abort-fits and = each-any-fits (commit ∷ abort ∷ []) cs _ cs (omega arith) few few
+  abort-fits and = any-fits _
   abort-fits or = each-fits (abort ∷ []) cs (omega arith) few
   abort-fits xor = each-fits (abort ∷ []) cs (omega arith) few
   abort-fits contingency = one-fits _ _
   abort-fits conditional = any-fits _
+  abort-fits waiting = each-any-fits (commit ∷ abort ∷ []) cs _ cs (omega arith) few few
 
 module _ (p : List ℕ) (ok : Accepted p) where
   few-others : (v : ℕ) → length (others p v) ≤ 32

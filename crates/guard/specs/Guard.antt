@@ -4,7 +4,7 @@ use mathlib.Core.List.{List, [], _∷_, _++_, map}
 use Prim.Native.Nat.{ℕ}
 use lib.Dec.{eqb}
 use Rattle.lists.specs.Seq.{all, any, lastOr, headOr}
-use Rattle.plan.specs.Plan.{Kind, task, serial, and, or, xor, contingency, conditional, kind, parent, children, others, above, inXor}
+use Rattle.plan.specs.Plan.{Kind, task, serial, and, or, xor, contingency, conditional, waiting, kind, parent, children, others, above, inXor}
 use Rattle.event.specs.Event.{Code, start, offer, commit, abort, answered-yes, answered-no, pick, down, Event, at}
 
 -- C1: a clause is a list of events, a guard a list of clauses
@@ -38,6 +38,7 @@ startBy or u cs v = one start u
 startBy xor u cs v = one start u
 startBy contingency u cs v = cond (isFirst cs v) (one start u) (one abort (beforeIn v cs v))
 startBy conditional u cs v = cond (isFirst cs v) (one answered-yes u) (one answered-no u)
+startBy waiting u cs v = one start u
 
 -- C3: finishing, v of the kind given with the children cs
 unfoldable pub finishBy : Kind → ℕ → List ℕ → Guard
@@ -48,16 +49,18 @@ finishBy or v cs = each (commit ∷ abort ∷ []) cs ++ anyOf commit cs
 finishBy xor v cs = each (commit ∷ abort ∷ down ∷ []) cs ++ anyOf commit cs
 finishBy contingency v cs = anyOf commit cs
 finishBy conditional v cs = anyOf commit cs
+finishBy waiting v cs = each (commit ∷ []) cs
 
--- C4: abort
+-- C4: abort. An and does not wait for its other children; a waiting one does
 unfoldable pub abortBy : Kind → ℕ → List ℕ → Guard
 abortBy task v cs = one start v
 abortBy serial v cs = anyOf abort cs
-abortBy and v cs = each (commit ∷ abort ∷ []) cs ++ anyOf abort cs
+abortBy and v cs = anyOf abort cs
 abortBy or v cs = each (abort ∷ []) cs
 abortBy xor v cs = each (abort ∷ []) cs
 abortBy contingency v cs = one abort (lastOr v cs)
 abortBy conditional v cs = anyOf abort cs
+abortBy waiting v cs = each (commit ∷ abort ∷ []) cs ++ anyOf abort cs
 
 unfoldable pub finishing : List ℕ → ℕ → Guard
 finishing p v = finishBy (kind p v) v (children p v)

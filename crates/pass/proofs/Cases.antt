@@ -49,11 +49,12 @@ cases =
     ∷ case (pair 5) (1 ∷ 2 ∷ 1 ∷ []) 14 (9 ∷ 9 ∷ 9 ∷ [])
     ∷ case (pair 5) (0 ∷ 2 ∷ 2 ∷ []) 0 (4 ∷ 4 ∷ 4 ∷ [])
     ∷ case (pair 5) (1 ∷ 2 ∷ 2 ∷ []) 14 (9 ∷ 9 ∷ 9 ∷ [])
-    -- an and settles every child, an or works by one
+    -- an and settles every child, be it waiting or not; an or works by one
     ∷ case (pair 3) (0 ∷ 2 ∷ 1 ∷ []) 0 (4 ∷ 4 ∷ 3 ∷ [])
+    ∷ case (pair 8) (0 ∷ 2 ∷ 1 ∷ []) 0 (4 ∷ 4 ∷ 3 ∷ [])
     ∷ case (pair 4) (0 ∷ 2 ∷ 1 ∷ []) 0 (3 ∷ 4 ∷ 3 ∷ [])
     -- a plan that is refused, and lengths
-    ∷ case (pair 8) (0 ∷ 1 ∷ 1 ∷ []) 2 (9 ∷ 9 ∷ 9 ∷ [])
+    ∷ case (pair 9) (0 ∷ 1 ∷ 1 ∷ []) 2 (9 ∷ 9 ∷ 9 ∷ [])
     ∷ case (pair 3) (0 ∷ 1 ∷ []) 7 (9 ∷ 9 ∷ [])
     ∷ []
 

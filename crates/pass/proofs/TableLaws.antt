@@ -12,7 +12,7 @@ use Rattle.lists.proofs.Logic.{cases, decided}
 use Rattle.lists.specs.Seq.{upFrom, allBelow}
 use Rattle.lists.proofs.Below.{below-stop}
 use Rattle.lists.proofs.Between.{between}
-use Rattle.plan.specs.Plan.{Kind, task, serial, and, or, xor, contingency, conditional, kindNumber, isKind, kindOf, kindByte, kind}
+use Rattle.plan.specs.Plan.{Kind, task, serial, and, or, xor, contingency, conditional, waiting, kindNumber, isKind, kindOf, kindByte, kind}
 use Rattle.plan.proofs.KindLaws.{is-kind, kind-other}
 use Rattle.pass.specs.Pass.{Outcome, works, breaks, fault, Tally, goesBy, goes, goodMark, note, childMark, oneOrTwo, badAnswer, badPick, closes, ending}
 use Rattle.pass.specs.Record.{frameOk, tableOk, tableNumber, classOf, countsAs, class}
@@ -22,17 +22,22 @@ module _ (k a : ℕ) where
   unfolding badAnswer kindOf upFrom
   answer-block l h = between (λ k. 0) (λ k. badAnswer (kindOf k) a) 2 5 refl k l h
 
-  answer-other : (2 ≤ k → k < 7 → ⊥) → badAnswer (kindOf k) a ≡ cond (oneOrTwo a) 0 13
+  pub answer-waiting : k ≡ 8 → 0 ≡ badAnswer (kindOf k) a
+  unfolding badAnswer kindOf
+  answer-waiting e = rw e
+
+  -- the conditional's and what is no block's
+  answer-other : (2 ≤ k → k ≤ 8 → k ≡ 7) → badAnswer (kindOf k) a ≡ cond (oneOrTwo a) 0 13
   unfolding badAnswer kindOf
   answer-other n = cases (decided (eqb k 7))
       (λ e. rw (eqb-true k 7 e))
-      (λ e. rw (kind-other k (λ l h. n l (omega (arith, eqb-false k 7 e)))))
+      (λ e. rw (kind-other k (λ l h. eqb-false k 7 e (n l h))))
 
-  pub answer-right : (2 ≤ k → k < 7 → ⊥) → 1 ≤ a → a < 3 → 0 ≡ badAnswer (kindOf k) a
+  pub answer-right : (2 ≤ k → k ≤ 8 → k ≡ 7) → 1 ≤ a → a < 3 → 0 ≡ badAnswer (kindOf k) a
   unfolding oneOrTwo upFrom
   answer-right n l h = between (λ a. 0) (λ a. cond (oneOrTwo a) 0 13) 1 2 refl a l h ∙ sym (answer-other n)
 
-  pub answer-wrong : (2 ≤ k → k < 7 → ⊥) → (1 ≤ a → a < 3 → ⊥) → 13 ≡ badAnswer (kindOf k) a
+  pub answer-wrong : (2 ≤ k → k ≤ 8 → k ≡ 7) → (1 ≤ a → a < 3 → ⊥) → 13 ≡ badAnswer (kindOf k) a
   unfolding oneOrTwo
   answer-wrong n m = sym (answer-other n ∙ rw (ne-eqb a 1 (λ e. m (omega arith) (omega arith)), ne-eqb a 2 (λ e. m (omega arith) (omega arith))))
 
@@ -66,13 +71,17 @@ module _ (k a : ℕ) (t : Tally) where
     unfolding goesBy kindOf upFrom goes
     goes-all l h = rw (eq-eqb (t .wrong) 0 w) (between (λ k. true) (λ k. goesBy (kindOf k) a t) 3 3 refl k l h)
 
+    pub goes-waiting : k ≡ 8 → true ≡ goes (kindOf k) a t
+    unfolding goesBy kindOf
+    goes-waiting e = goes-at waiting (ap kindOf e)
+
     pub goes-low : k < 3 → (k ≡ 2 → ⊥) → false ≡ goes (kindOf k) a t
     unfolding goesBy
     goes-low l n = goes-at task (kind-other k (λ m h. n (omega arith)))
 
-    pub goes-high : 5 < k → (k ≡ 6 → ⊥) → (k ≡ 7 → ⊥) → false ≡ goes (kindOf k) a t
+    pub goes-high : 5 < k → (k ≡ 6 → ⊥) → (k ≡ 7 → ⊥) → (k ≡ 8 → ⊥) → false ≡ goes (kindOf k) a t
     unfolding goesBy
-    goes-high l n m = goes-at task (kind-other k (λ g h. omega arith))
+    goes-high l n m o = goes-at task (kind-other k (λ g h. omega arith))
 
   pub closes-broke : 2 ≤ k → k < 4 → not (t .broke) ≡ closes (kindOf k) a t
   unfolding closes kindOf upFrom
@@ -82,7 +91,11 @@ module _ (k a : ℕ) (t : Tally) where
   unfolding closes kindOf upFrom
   closes-worked l h = between (λ k. t .worked) (λ k. closes (kindOf k) a t) 4 4 refl k l h
 
-  pub closes-task : (2 ≤ k → k ≤ 7 → ⊥) → eqb a 1 ≡ closes (kindOf k) a t
+  pub closes-waiting : k ≡ 8 → not (t .broke) ≡ closes (kindOf k) a t
+  unfolding closes kindOf
+  closes-waiting e = rw e
+
+  pub closes-task : (2 ≤ k → k ≤ 8 → ⊥) → eqb a 1 ≡ closes (kindOf k) a t
   unfolding closes
   closes-task n = rw (kind-other k n)
 
@@ -95,6 +108,7 @@ module _ (k a : ℕ) (t : Tally) where
   pick-by xor e = absurd (true≢false e)
   pick-by contingency e = refl
   pick-by conditional e = refl
+  pick-by waiting e = refl
 
   pub pick-other : (k ≡ 5 → ⊥) → 0 ≡ badPick (kindOf k) a t
   unfolding kindNumber
@@ -140,12 +154,12 @@ module _ (a : ℕ) (t : Tally) (o : Outcome) (e : o ≡ works) where
 
 -- the class of a block and of a task, by its kind's byte k
 module _ (p tab m : List ℕ) (v k : ℕ) (e : k ≡ kindByte p v) where
-  pub class-block : 2 ≤ k → k < 8 → 0 ≡ class p tab m v
+  pub class-block : 2 ≤ k → k < 9 → 0 ≡ class p tab m v
   unfolding class kind isKind kindNumber kindOf upFrom
-  class-block l h = rw (← e) (between (λ k. 0) (λ k. cond (isKind task (kindOf k)) (classOf tab (countsAs p m v)) 0) 2 6 refl k l h)
+  class-block l h = rw (← e) (between (λ k. 0) (λ k. cond (isKind task (kindOf k)) (classOf tab (countsAs p m v)) 0) 2 7 refl k l h)
 
   -- x is the mark as which it counts, y the class that was read
-  pub class-task : (2 ≤ k → k ≤ 7 → ⊥) → (x j y : ℕ) → x ≡ countsAs p m v → j ≡ x → y ≡ getD tab (2 * j + 1) 0 → y ≡ class p tab m v
+  pub class-task : (2 ≤ k → k ≤ 8 → ⊥) → (x j y : ℕ) → x ≡ countsAs p m v → j ≡ x → y ≡ getD tab (2 * j + 1) 0 → y ≡ class p tab m v
   unfolding class classOf kind isKind kindNumber
   class-task n x j y g h q = rw (← e, kind-other k n, q, h, g)
 

@@ -7,7 +7,7 @@ use mathlib.Core.List.{List, [], _∷_}
 use Prim.Native.Nat.{ℕ, zero, suc}
 use lib.Dec.{eqb}
 use lib.ListN.{length, getD, set, replicate}
-use Rattle.plan.specs.Plan.{Kind, task, serial, and, or, xor, contingency, conditional, kind, size, children, isKind}
+use Rattle.plan.specs.Plan.{Kind, task, serial, and, or, xor, contingency, conditional, waiting, kind, size, children, isKind}
 use Rattle.plan.specs.Check.{checkNumber}
 
 -- how a node ends. F3: it works if it commits, or offers as a child of an xor; it breaks if it fails. F5: a fault's number is 13 or 14
@@ -33,6 +33,7 @@ goesBy or a t = true
 goesBy xor a t = true
 goesBy contingency a t = not (t .worked)
 goesBy conditional a t = cond (eqb (t .places) 0) (eqb a 1) (eqb a 2)
+goesBy waiting a t = true
 
 -- F5: the first fault met ends the pass
 unfoldable pub goes : Kind → ℕ → Tally → Bool
@@ -51,6 +52,7 @@ badAnswer or a = 0
 badAnswer xor a = 0
 badAnswer contingency a = 0
 badAnswer conditional a = cond (oneOrTwo a) 0 13
+badAnswer waiting a = 0
 
 -- F5, table: the same after its children. F1: an xor's answer is the place of a child that offers, and 0 if none does
 unfoldable pub badPick : Kind → ℕ → Tally → ℕ
@@ -61,6 +63,7 @@ badPick or a t = 0
 badPick xor a t = cond (cond (t .worked) (t .chosen) (eqb a 0)) 0 14
 badPick contingency a t = 0
 badPick conditional a t = 0
+badPick waiting a t = 0
 
 -- F3, table: the node works, by its answer (a task) or its children (E4, E5); else it breaks
 unfoldable pub closes : Kind → ℕ → Tally → Bool
@@ -71,6 +74,7 @@ closes or a t = t .worked
 closes xor a t = t .worked
 closes contingency a t = t .worked
 closes conditional a t = t .worked
+closes waiting a t = not (t .broke)
 
 -- F4: the mark of a child that works, in place n: an xor turns down all but the picked one
 unfoldable pub goodMark : Kind → ℕ → ℕ → ℕ

@@ -31,6 +31,7 @@ fn bad_answer(kind: u8, answer: u8) -> u8
 {
     match kind {
         2..=6 => 0,
+        8 => 0,
         _ => match answer {
             1..=2 => 0,
             _ => 13,
@@ -56,6 +57,7 @@ fn reaches(kind: u8, answer: u8, t: Tally) -> bool
                 answer == 2
             }
         }
+        8 => true,
         _ => false,
     }
 }
@@ -122,6 +124,7 @@ fn works(kind: u8, answer: u8, t: Tally) -> bool
     match kind {
         2..=3 => !t.broke,
         4..=7 => t.worked,
+        8 => !t.broke,
         _ => answer == 1,
     }
 }
@@ -377,7 +380,7 @@ pub fn class(plan: &[u8], table: &[u8], marks: &[u8], v: u8) -> u8
     ensures { λ r. ⌜ r ≡ class (now (plan .entry)) (now (table .entry)) (now (marks .entry)) v ⌝ }
 {
     match plan::kind(plan, v) {
-        2..=7 => 0,
+        2..=8 => 0,
         _ => {
             let mark = counts_as(plan, marks, v);
             plan::byte_at(table, 2 * plan::wide(mark) + 1)

@@ -35,7 +35,7 @@ cases =
     ∷ case (broad 31) 1
     ∷ case [] 1
     ∷ case (1 ∷ 255 ∷ 1 ∷ []) 1
-    ∷ case (2 ∷ 7 ∷ 8 ∷ 0 ∷ []) 2
+    ∷ case (2 ∷ 7 ∷ 9 ∷ 0 ∷ []) 2
     ∷ case (0 ∷ 255 ∷ []) 2
     ∷ case (1 ∷ 0 ∷ []) 3
     ∷ case (2 ∷ 255 ∷ 1 ∷ 1 ∷ []) 3
@@ -43,6 +43,9 @@ cases =
     ∷ case (2 ∷ 255 ∷ []) 5
     ∷ case (2 ∷ 255 ∷ nodes 32 1 0) 0
     ∷ case (2 ∷ 255 ∷ nodes 33 1 0) 5
+    ∷ case (8 ∷ 255 ∷ []) 5
+    ∷ case (8 ∷ 255 ∷ nodes 32 1 0) 0
+    ∷ case (8 ∷ 255 ∷ nodes 33 1 0) 5
     ∷ case (7 ∷ 255 ∷ nodes 1 1 0) 5
     ∷ case (7 ∷ 255 ∷ nodes 2 1 0) 0
     ∷ case (7 ∷ 255 ∷ nodes 3 1 0) 5

@@ -8,7 +8,7 @@ use lib.Dec.{eqb, leb}
 use borrow.Author.Tests.{ne-eqb, eqb-true, eqb-false}
 use native.Mathlib.Omega.{arith}
 use Rattle.lists.proofs.Logic.{cases, decided, no-bool}
-use Rattle.plan.specs.Plan.{Kind, task, serial, and, or, xor, contingency, conditional, kindNumber, isKind, kindOf, kindByte, kind, parent, above, aboveByte}
+use Rattle.plan.specs.Plan.{Kind, task, serial, and, or, xor, contingency, conditional, waiting, kindNumber, isKind, kindOf, kindByte, kind, parent, above, aboveByte}
 use Rattle.plan.specs.Check.{fits}
 
 pub kind-task : (p : List ℕ) (v : ℕ) → kindByte p v ≡ 1 → kind p v ≡ task
@@ -33,10 +33,10 @@ fits-low (suc zero) n l = refl
 fits-low (suc (suc k)) n l = absurd (omega arith)
 
 -- a byte that is no block's kind is a task's
-pub kind-other : (k : ℕ) → (2 ≤ k → k ≤ 7 → ⊥) → kindOf k ≡ task
+pub kind-other : (k : ℕ) → (2 ≤ k → k ≤ 8 → ⊥) → kindOf k ≡ task
 unfolding kindOf
 kind-other k h =
-    let ne : (m : ℕ) → 2 ≤ m → m ≤ 7 → eqb k m ≡ false = λ m a b. ne-eqb k m (λ e. h (rw e a) (rw e b)) in
+    let ne : (m : ℕ) → 2 ≤ m → m ≤ 8 → eqb k m ≡ false = λ m a b. ne-eqb k m (λ e. h (rw e a) (rw e b)) in
     simp (
       ne 2 (omega arith) (omega arith),
       ne 3 (omega arith) (omega arith),
@@ -44,15 +44,20 @@ kind-other k h =
       ne 5 (omega arith) (omega arith),
       ne 6 (omega arith) (omega arith),
       ne 7 (omega arith) (omega arith),
+      ne 8 (omega arith) (omega arith),
     )
 
-pub fits-high : (k n : ℕ) → 7 < k → fits (kindOf k) n ≡ eqb n 0
+pub fits-high : (k n : ℕ) → 8 < k → fits (kindOf k) n ≡ eqb n 0
 unfolding fits
 fits-high k n l = rw (kind-other k (λ a b. omega arith))
 
 pub fits-two : (k n : ℕ) → k ≡ 7 → fits (kindOf k) n ≡ eqb n 2
 unfolding fits kindOf
 fits-two k n e = rw e
+
+pub fits-waiting : (k n : ℕ) → k ≡ 8 → fits (kindOf k) n ≡ (leb 1 n && leb n 32)
+unfolding fits kindOf
+fits-waiting k n e = rw e
 
 -- the kind above, read off its byte
 pub above-byte : (p : List ℕ) (v : ℕ) → above p v ≡ kindOf (aboveByte p v)
@@ -77,7 +82,7 @@ back-or k j r h = go (eqb k (kindNumber j)) refl
 back : (k : ℕ) → Back k (kindOf k)
 unfolding kindOf kindNumber
 back k =
-    back-or k serial _ (back-or k and _ (back-or k or _ (back-or k xor _ (back-or k contingency _ (back-or k conditional task (inr refl))))))
+    back-or k serial _ (back-or k and _ (back-or k or _ (back-or k xor _ (back-or k contingency _ (back-or k conditional _ (back-or k waiting task (inr refl)))))))
 
 kind-number : (j : Kind) → kindOf (kindNumber j) ≡ j
 unfolding kindOf kindNumber
@@ -88,6 +93,7 @@ kind-number or = refl
 kind-number xor = refl
 kind-number contingency = refl
 kind-number conditional = refl
+kind-number waiting = refl
 
 kind-same : (j : Kind) → isKind j j ≡ true
 unfolding isKind kindNumber
@@ -98,6 +104,7 @@ kind-same or = refl
 kind-same xor = refl
 kind-same contingency = refl
 kind-same conditional = refl
+kind-same waiting = refl
 
 -- the byte's test says what the kind's does, for every kind but a task
 pub is-kind : (j : Kind) (k : ℕ) → 1 < kindNumber j → isKind j (kindOf k) ≡ eqb k (kindNumber j)

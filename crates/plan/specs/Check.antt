@@ -7,15 +7,15 @@ use Prim.Native.Nat.{ℕ, suc, _*_, _%_, _≤_, _<_}
 use lib.ListN.{length}
 use lib.Dec.{eqb, ltb, leb}
 use Rattle.lists.specs.Seq.{allBelow}
-use Rattle.plan.specs.Plan.{Kind, task, serial, and, or, xor, contingency, conditional, size, kindByte, kind, parent, children, childCount, depth}
+use Rattle.plan.specs.Plan.{Kind, task, serial, and, or, xor, contingency, conditional, waiting, size, kindByte, kind, parent, children, childCount, depth}
 
 -- H1: plan length odd, 0 or above 320 bytes
 unfoldable pub lengthOk : List ℕ → Bool
 lengthOk p = eqb (length p % 2) 0 && ltb 0 (length p) && leb (length p) 320
 
--- H2: kind not 01 to 07
+-- H2: kind not 01 to 08
 unfoldable pub kindOk : List ℕ → ℕ → Bool
-kindOk p v = leb 1 (kindByte p v) && leb (kindByte p v) 7
+kindOk p v = leb 1 (kindByte p v) && leb (kindByte p v) 8
 
 -- H3: root's parent not ff, another's not below its number
 unfoldable pub parentOk : List ℕ → ℕ → Bool
@@ -34,6 +34,7 @@ fits or n = leb 1 n && leb n 32
 fits xor n = leb 1 n && leb n 32
 fits contingency n = leb 1 n && leb n 32
 fits conditional n = eqb n 2
+fits waiting n = leb 1 n && leb n 32
 
 unfoldable pub countOk : List ℕ → ℕ → Bool
 countOk p v = fits (kind p v) (childCount p v)
@@ -72,7 +73,7 @@ pub record Accepted (p : List ℕ) : Type 0 where
   pub some : 0 < size p
   pub few : size p ≤ 160
   pub low : (v : ℕ) → v < size p → 1 ≤ kindByte p v
-  pub high : (v : ℕ) → v < size p → kindByte p v ≤ 7
+  pub high : (v : ℕ) → v < size p → kindByte p v ≤ 8
   pub root : parent p 0 ≡ 255
   pub below : (v : ℕ) → 0 < v → v < size p → parent p v < v
   pub tasks : (v : ℕ) → v < size p → kind p v ≡ task → children p v ≡ []

@@ -6,8 +6,9 @@ use lib.ListN.{length, getD}
 use lib.Dec.{eqb}
 use Rattle.lists.specs.Seq.{keep, upFrom}
 
+-- A2: an and fails with its first failed child, a waiting and once all children have ended
 pub data Kind : Type 0 where
-  task serial and or xor contingency conditional : Kind
+  task serial and or xor contingency conditional waiting : Kind
 
 -- A2: a kind's byte
 unfoldable pub kindNumber : Kind → ℕ
@@ -18,6 +19,7 @@ kindNumber or = 4
 kindNumber xor = 5
 kindNumber contingency = 6
 kindNumber conditional = 7
+kindNumber waiting = 8
 
 -- k and j are the same kind
 unfoldable pub isKind : Kind → Kind → Bool
@@ -31,7 +33,8 @@ kindOf k =
     (cond (eqb k 4) or
     (cond (eqb k 5) xor
     (cond (eqb k 6) contingency
-    (cond (eqb k 7) conditional task)))))
+    (cond (eqb k 7) conditional
+    (cond (eqb k 8) waiting task))))))
 
 -- A1: a node is two bytes, kind and then parent number
 unfoldable pub size : List ℕ → ℕ

@@ -82,7 +82,7 @@ fn kind_ok(plan: &[u8], v: usize) -> bool
     ensures { λ r. ⌜ r ≡ kindOk (now (plan .entry)) v ⌝ }
 {
     let k = kind_at(plan, v);
-    1 <= k && k <= 7
+    1 <= k && k <= 8
 }
 
 // Here and below a loop runs on behind a failed test: that is faster where none fails.
@@ -171,6 +171,7 @@ fn count_ok(k: u8, n: u8) -> bool
     match k {
         2..=6 => 1 <= n && n <= 32,
         7 => n == 2,
+        8 => 1 <= n && n <= 32,
         _ => n == 0,
     }
 }

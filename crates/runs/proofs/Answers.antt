@@ -13,7 +13,7 @@ use Rattle.lists.proofs.Logic.{cases, no-bool, either, parts, clash, decided}
 use Rattle.lists.proofs.Members.{rising-above}
 use Rattle.lists.proofs.Table.{table-length, table-at}
 use Rattle.lists.proofs.Points.{any-none, earlier-none}
-use Rattle.plan.specs.Plan.{Kind, task, serial, and, or, xor, contingency, conditional, size, kind, parent, children, inXor}
+use Rattle.plan.specs.Plan.{Kind, task, serial, and, or, xor, contingency, conditional, waiting, size, kind, parent, children, inXor}
 use Rattle.plan.specs.Check.{Accepted}
 use Rattle.plan.proofs.PlanLaws.{rising-children, child-in}
 use Rattle.plan.proofs.AcceptedLaws.{parent-in}
@@ -46,6 +46,7 @@ answerBy or p s v = 0
 answerBy xor p s v = placeFrom (s .picked) 0 (children p v)
 answerBy contingency p s v = 0
 answerBy conditional p s v = answerNumber (s .answer v)
+answerBy waiting p s v = 0
 
 answersOf : List ℕ → Central → List ℕ
 answersOf p s = table (λ v. answerBy (kind p v) p s v) (size p)
@@ -168,6 +169,7 @@ module _ (p : List ℕ) (ok : Accepted p) (s : Central) (good : Good p s) where
       go none = omega arith
       go said-yes = omega arith
       go said-no = omega arith
+  answer-small waiting v l = omega arith
 
   answers-bytes : Bytes (size p) (answersOf p s)
   unfolding answersOf

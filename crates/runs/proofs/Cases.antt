@@ -1,13 +1,16 @@
 -- The worked cases P1 to P10, on plan P: a guard's bytes (P1 to P8), and the marks that the pass writes (P9, P10); and a draft that committed
--- inside a block that was turned down, with its class. Assumes nothing.
+-- inside a block that was turned down, with its class. Then runs of the two kinds of and. Assumes nothing.
 use mathlib.Core.Path.{_≡_, refl}
+use mathlib.Core.Bool.{Bool, true, false}
 use mathlib.Core.List.{List, [], _∷_, _++_, map}
 use Prim.Native.Nat.{ℕ}
 use Rattle.lists.specs.Seq.{all, any, keep, upFrom, table, headOr, lastOr}
 use Rattle.plan.specs.Plan.{kindNumber, isKind, kindOf, size, kindByte, kind, parent, childrenBelow, children, others, above, inXor}
-use Rattle.event.specs.Event.{start, offer, commit, abort, down, codeNumber, Event, at}
+use Rattle.event.specs.Event.{start, offer, commit, abort, down, codeNumber, Event, at, appliesBy, applies}
 use Rattle.guard.specs.Guard.{beforeIn, isFirst, startBy, finishBy, abortBy, finishing, aborting, guardBy, guard}
 use Rattle.guard.specs.Bytes.{encEvents, encClauses, encode}
+use Rattle.central.specs.Mark.{markNumber, isMark}
+use Rattle.central.specs.Central.{fresh, markAfter, answerAfter, pickedAfter, after, reachedBy, mayStart, finishesBy, failsBy, allowedBy, allowed, runFrom, isRun}
 use Rattle.pass.specs.Pass.{goesBy, goes, goodMark, skip, note, childMark, noted, meetBy, meet, walk, nothing, unwalked, oneOrTwo, badAnswer, badPick, closes, ending, endOf, close, settleIf, settleBy, settle, numberOf, rootMark, passOf, pass}
 use Rattle.pass.specs.Record.{commonTable, classOf, aboveWithin, nodesAbove, fell, countsAbove, countsAs, class, Record, recordOf}
 
@@ -58,3 +61,18 @@ cases =
 pub all-right : map (λ k. answer (k .asked)) cases ≡ map (λ k. k .told) cases
 unfolding cases case answer listed recordOf class classOf countsAs countsAbove nodesAbove aboveWithin fell commonTable table any all encode encClauses encEvents guard guardBy startBy finishBy abortBy finishing aborting isFirst headOr beforeIn lastOr above inXor isKind kindNumber kind kindOf kindByte parent size children childrenBelow others keep upFrom codeNumber pass passOf settle settleBy settleIf close endOf ending closes badPick badAnswer oneOrTwo nothing unwalked walk meet meetBy noted note childMark skip goodMark goes goesBy numberOf rootMark
 all-right = refl
+
+-- an and over two tasks, of kind 03 or 08
+abbrev pair : ℕ → List ℕ
+pair k = k ∷ 255 ∷ 1 ∷ 0 ∷ 1 ∷ 0 ∷ []
+
+-- the block fails with its first failed child, and the other one starts and ends afterwards; or it waits for that
+abbrev early : List Event
+early = at start 0 ∷ at start 1 ∷ at abort 1 ∷ at abort 0 ∷ at start 2 ∷ at commit 2 ∷ []
+
+abbrev late : List Event
+late = at start 0 ∷ at start 1 ∷ at abort 1 ∷ at start 2 ∷ at commit 2 ∷ at abort 0 ∷ []
+
+pub ands-right : map (λ k. isRun (pair k) early ∷ isRun (pair k) late ∷ []) (3 ∷ 8 ∷ []) ≡ (true ∷ true ∷ []) ∷ (false ∷ true ∷ []) ∷ []
+unfolding isRun runFrom allowed applies appliesBy allowedBy mayStart reachedBy finishesBy failsBy fresh after markAfter answerAfter pickedAfter isMark markNumber above inXor isKind kindNumber kind kindOf kindByte parent size children childrenBelow keep upFrom all any
+ands-right = refl

@@ -10,7 +10,7 @@ use Rattle.lists.specs.Member.{Either, left, right, In}
 use Rattle.lists.proofs.Logic.{cases, either, and-join, clash, decided}
 use Rattle.lists.proofs.Members.{all-by, any-by}
 use Rattle.lists.proofs.Points.{any-none, all-missed}
-use Rattle.plan.specs.Plan.{Kind, task, serial, and, or, xor, contingency, conditional, kindNumber, isKind, size, kind, children}
+use Rattle.plan.specs.Plan.{Kind, task, serial, and, or, xor, contingency, conditional, waiting, kindNumber, isKind, size, kind, children}
 use Rattle.plan.specs.Check.{Accepted}
 use Rattle.plan.proofs.PlanLaws.{rising-children}
 use Rattle.plan.proofs.AcceptedLaws.{child-between}
@@ -88,12 +88,20 @@ module _ (p : List ℕ) (ok : Accepted p) (s : Central) (good : Good p s) (stuck
   each-ended x r = all-by (λ c. marked s committed c || marked s failed c) (children p v) (λ c i.
       (either (marked s committed c) (marked s failed c)) .1 (plain x c i (all-start r c i)))
 
+  one-failed : isKind xor (kind p v) ≡ false → ((c : ℕ) → reachedBy (kind p v) s v (children p v) c ≡ true) →
+      all (marked s committed) (children p v) ≡ false → any (marked s failed) (children p v) ≡ true
+  one-failed x r e =
+      let m = all-missed (marked s committed) (children p v) e in
+      any-by (marked s failed) (m .1) (cases (plain x (m .0) (m .1) (all-start r (m .0) (m .1))) (λ h. clash _ h (m .2)) (λ h. h))
+
   ready-and : kind p v ≡ and → Ready and
   unfolding finishesBy failsBy reachedBy isKind kindNumber
-  ready-and k = cases (decided (all (marked s committed) (children p v))) left
-      (λ e. let r = all-missed (marked s committed) (children p v) e in
-      let f : marked s failed (r .0) ≡ true = cases (plain (rw k) (r .0) (r .1) (all-start (λ c. rw k) (r .0) (r .1))) (λ h. clash _ h (r .2)) (λ h. h) in
-      right (and-join _ _ (each-ended (rw k) (λ c. rw k)) (any-by (marked s failed) (r .1) f)))
+  ready-and k = cases (decided (all (marked s committed) (children p v))) left (λ e. right (one-failed (rw k) (λ c. rw k) e))
+
+  ready-waiting : kind p v ≡ waiting → Ready waiting
+  unfolding finishesBy failsBy reachedBy isKind kindNumber
+  ready-waiting k = cases (decided (all (marked s committed) (children p v))) left
+      (λ e. right (and-join _ _ (each-ended (rw k) (λ c. rw k)) (one-failed (rw k) (λ c. rw k) e)))
 
   ready-or : kind p v ≡ or → Ready or
   unfolding finishesBy failsBy reachedBy isKind kindNumber
@@ -141,6 +149,7 @@ module _ (p : List ℕ) (ok : Accepted p) (s : Central) (good : Good p s) (stuck
   ready xor k = ready-xor k
   ready contingency k = ready-contingency k
   ready conditional k = ready-conditional k
+  ready waiting k = ready-waiting k
 
   ended-now : ended s v ≡ true
   unfolding ended isMark markNumber

@@ -12,7 +12,7 @@ use Rattle.lists.specs.Member.{Either, left, right, In, here, there, Rising, ne
 use Rattle.lists.proofs.Logic.{cases, same-bool, clash, decided}
 use Rattle.lists.proofs.Members.{all-at, all-by, rising-above}
 use Rattle.lists.proofs.Points.{in-earlier, earlier-in, last-member, last-greatest}
-use Rattle.plan.specs.Plan.{Kind, task, serial, and, or, xor, contingency, conditional, kindNumber, isKind, kindOf, size, kindByte, kind, parent, children, above, inXor}
+use Rattle.plan.specs.Plan.{Kind, task, serial, and, or, xor, contingency, conditional, waiting, kindNumber, isKind, kindOf, size, kindByte, kind, parent, children, above, inXor}
 use Rattle.plan.proofs.PlanLaws.{Child, child-of}
 use Rattle.plan.proofs.KindLaws.{is-kind}
 use Rattle.guard.specs.Guard.{beforeIn, isFirst}
@@ -106,6 +106,7 @@ task-or-not or = right (not-task or refl)
 task-or-not xor = right (not-task xor refl)
 task-or-not contingency = right (not-task contingency refl)
 task-or-not conditional = right (not-task conditional refl)
+task-or-not waiting = right (not-task waiting refl)
 
 module _ (p : List ℕ) where
   pub xor-is : (v : ℕ) → isKind xor (kind p v) ≡ true → kind p v ≡ xor

@@ -11,7 +11,7 @@ use Rattle.lists.specs.Seq.{all, any, earlier}
 use Rattle.lists.specs.Member.{In}
 use Rattle.lists.proofs.Logic.{cases, no-bool, parts, clash}
 use Rattle.lists.proofs.Members.{any-by, any-at, any-map, in-some}
-use Rattle.plan.specs.Plan.{Kind, task, serial, and, or, xor, contingency, conditional, kindNumber, isKind, size, kind, parent, children, others, above, inXor}
+use Rattle.plan.specs.Plan.{Kind, task, serial, and, or, xor, contingency, conditional, waiting, kindNumber, isKind, size, kind, parent, children, others, above, inXor}
 use Rattle.plan.specs.Check.{Accepted}
 use Rattle.plan.proofs.PlanLaws.{rising-children, child-in}
 use Rattle.event.specs.Event.{Code, start, offer, commit, abort, answered-yes, answered-no, pick, down, at, appliesBy, applies}
@@ -23,7 +23,7 @@ use Rattle.runs.proofs.Said.{saidBy, said, happened}
 use Rattle.runs.proofs.Family.{first-least, before-of, chain-last, chain-before, first-none, not-task, task-or-not}
 use Rattle.runs.proofs.Good.{Good, good-run}
 use Rattle.runs.proofs.BarLaws.{end-by, offer-bar, commit-bar, abort-bar, picked-by, pick-by, down-by, answer-by}
-use Rattle.runs.proofs.GuardLaws.{holds-one, holds-two, holds-cond, finish-and, finish-or, finish-xor, finish-contingency, abort-serial, abort-and, abort-or, abort-xor, finish-shown, abort-shown, branch-only}
+use Rattle.runs.proofs.GuardLaws.{holds-one, holds-two, holds-cond, finish-and, finish-waiting, finish-or, finish-xor, finish-contingency, abort-serial, abort-and, abort-waiting, abort-or, abort-xor, finish-shown, abort-shown, branch-only}
 use Rattle.runs.proofs.Facts.{commit-started, abort-started, child-placed, commit-chain, abort-chain, offered-xor, no-other, picked-mark, some-picked}
 
 absorb : (x y : Bool) → (x ≡ true → y ≡ true) → x ≡ (y && x)
@@ -75,6 +75,7 @@ module _ (p : List ℕ) (ok : Accepted p) (s : Central) (good : Good p s) where
         go xor q = finish-xor p s v (children p v)
         go contingency q = finish-contingency p s v (children p v)
         go conditional q = simp (any-map, and-true) (by-branch (marked s committed) (commit-started p s) q)
+        go waiting q = finish-waiting p s v (children p v)
 
     abort-fits : started s v ≡ true → holds (said p s) (aborting p v) ≡ failsBy (kind p v) s v (children p v)
     unfolding isKind kindNumber aborting holds abortBy failsBy any all said saidBy
@@ -89,6 +90,7 @@ module _ (p : List ℕ) (ok : Accepted p) (s : Central) (good : Good p s) where
         go contingency q = simp (or-false, and-true)
             (chain-last (marked s failed) (children p v) (rising-children p v) (abort-chain p s good v q) v (some-block q refl))
         go conditional q = simp (any-map, and-true) (by-branch (marked s failed) (abort-started p s) q)
+        go waiting q = abort-waiting p s v (children p v)
 
   -- the guard of a start is the central rule's test
   start-fits : (v : ℕ) → v < size p → holds (said p s) (guardBy p start v) ≡ mayStart p s v
@@ -134,6 +136,7 @@ module _ (p : List ℕ) (ok : Accepted p) (s : Central) (good : Good p s) where
           i (isFirst cs v) refl
       by-kind conditional q i m =
           holds-cond (said p s) (isFirst cs v) (at answered-yes u) (at answered-no u) ∙ by-answer i (isFirst cs v) refl
+      by-kind waiting q i m = simp (or-false, and-true)
 
       go : (b : Bool) → eqb v 0 ≡ b → holds (said p s) (startBy (cond b task (kind p u)) u cs v) ≡ cond b true (started s u && reachedBy (cond b task (kind p u)) s u cs v)
       go true e = refl

@@ -10,7 +10,7 @@ use Rattle.lists.specs.Member.{Either, left, right, In}
 use Rattle.lists.proofs.Logic.{cases, either, and-join, parts, clash, decided}
 use Rattle.lists.proofs.Members.{any-by}
 use Rattle.lists.proofs.Points.{or-grows, all-grows, any-grows}
-use Rattle.plan.specs.Plan.{Kind, task, serial, and, or, xor, contingency, conditional, size, kind, parent, children, others, above, inXor}
+use Rattle.plan.specs.Plan.{Kind, task, serial, and, or, xor, contingency, conditional, waiting, size, kind, parent, children, others, above, inXor}
 use Rattle.plan.proofs.PlanLaws.{child-in}
 use Rattle.event.specs.Event.{start, offer, commit, abort, answered-yes, answered-no, pick, down, Event, at, same, appliesBy, applies}
 use Rattle.central.specs.Mark.{offered, committed, failed, turned-down}
@@ -66,6 +66,7 @@ module _ (p : List ℕ) (s t : Central) (grows : Grows p s t) where
       go : (b : Bool) → cond b (isNo (s .answer u)) (isYes (s .answer u)) ≡ true → cond b (isNo (t .answer u)) (isYes (t .answer u)) ≡ true
       go true h = grows (at answered-no u) h
       go false h = grows (at answered-yes u) h
+  reached-grows waiting u cs v h = h
 
   place-grows : (v : ℕ) → mayStart p s v ≡ true → mayStart p t v ≡ true
   unfolding mayStart said saidBy
@@ -96,20 +97,22 @@ module _ (p : List ℕ) (s t : Central) (grows : Grows p s t) where
   finishes-grows conditional v cs h =
       branch-grows (marked s committed) (marked t committed) (λ c. grows (at commit c)) (s .answer v) (t .answer v)
       (grows (at answered-yes v)) (grows (at answered-no v)) cs h
+  finishes-grows waiting v cs h = all-grows _ (marked t committed) cs (λ c. grows (at commit c)) h
 
   fails-grows : (k : Kind) (v : ℕ) (cs : List ℕ) → failsBy k s v cs ≡ true → failsBy k t v cs ≡ true
   unfolding failsBy said saidBy
   fails-grows task v cs h = refl
   fails-grows serial v cs h = any-grows _ (marked t failed) cs (λ c. grows (at abort c)) h
-  fails-grows and v cs h = and-join _ _
-      (all-grows (λ c. marked s committed c || marked s failed c) (λ c. marked t committed c || marked t failed c) cs ended (search parts))
-      (any-grows (marked s failed) (marked t failed) cs (λ c. grows (at abort c)) (search parts))
+  fails-grows and v cs h = any-grows _ (marked t failed) cs (λ c. grows (at abort c)) h
   fails-grows or v cs h = all-grows _ (marked t failed) cs (λ c. grows (at abort c)) h
   fails-grows xor v cs h = all-grows _ (marked t failed) cs (λ c. grows (at abort c)) h
   fails-grows contingency v cs h = all-grows _ (marked t failed) cs (λ c. grows (at abort c)) h
   fails-grows conditional v cs h =
       branch-grows (marked s failed) (marked t failed) (λ c. grows (at abort c)) (s .answer v) (t .answer v)
       (grows (at answered-yes v)) (grows (at answered-no v)) cs h
+  fails-grows waiting v cs h = and-join _ _
+      (all-grows (λ c. marked s committed c || marked s failed c) (λ c. marked t committed c || marked t failed c) cs ended (search parts))
+      (any-grows (marked s failed) (marked t failed) cs (λ c. grows (at abort c)) (search parts))
 
 module _ (p : List ℕ) (s : Central) (e : Event) (good : Good p s) (ok : allowed p s e ≡ true) where
   grown : Grows p s (after s e)

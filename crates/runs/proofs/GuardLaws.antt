@@ -12,7 +12,7 @@ use Rattle.lists.specs.Member.{In, here, there, Rising, end, next}
 use Rattle.lists.proofs.Logic.{no-bool, both}
 use Rattle.lists.proofs.Members.{all-at, any-at, all-map, any-map, all-append}
 use Rattle.lists.proofs.Points.{some-in, last-member}
-use Rattle.plan.specs.Plan.{Kind, task, serial, and, or, xor, contingency, conditional}
+use Rattle.plan.specs.Plan.{Kind, task, serial, and, or, xor, contingency, conditional, waiting}
 use Rattle.event.specs.Event.{Code, commit, abort, Event, at}
 use Rattle.guard.specs.Guard.{finishBy, abortBy, holds}
 use Rattle.central.specs.Central.{Answer, none, said-yes, said-no, Central, isYes, isNo, ofBranch, finishesBy, failsBy}
@@ -44,6 +44,10 @@ module _ (p : List ℕ) (s : Central) (v : ℕ) (cs : List ℕ) where
   unfolding holds finishBy finishesBy said saidBy any all
   finish-xor = simp (all-append, all-map, any-map, or-false, and-true, or-assoc)
 
+  pub finish-waiting : holds (said p s) (finishBy waiting v cs) ≡ finishesBy waiting s v cs
+  unfolding holds finishBy finishesBy said saidBy any all
+  finish-waiting = simp (all-map, or-false)
+
   pub finish-contingency : holds (said p s) (finishBy contingency v cs) ≡ finishesBy contingency s v cs
   unfolding holds finishBy finishesBy said saidBy any all
   finish-contingency = simp (any-map, and-true)
@@ -54,7 +58,11 @@ module _ (p : List ℕ) (s : Central) (v : ℕ) (cs : List ℕ) where
 
   pub abort-and : holds (said p s) (abortBy and v cs) ≡ failsBy and s v cs
   unfolding holds abortBy failsBy said saidBy any all
-  abort-and = simp (all-append, all-map, any-map, or-false, and-true)
+  abort-and = simp (any-map, and-true)
+
+  pub abort-waiting : holds (said p s) (abortBy waiting v cs) ≡ failsBy waiting s v cs
+  unfolding holds abortBy failsBy said saidBy any all
+  abort-waiting = simp (all-append, all-map, any-map, or-false, and-true)
 
   pub abort-or : holds (said p s) (abortBy or v cs) ≡ failsBy or s v cs
   unfolding holds abortBy failsBy said saidBy any all
@@ -87,16 +95,18 @@ module _ (H : Event → Bool) (v : ℕ) (cs : List ℕ) (some : 0 < length cs) w
   finish-shown xor n h = shown-any commit ((simp (all-append, all-map, any-map, or-false, both) at h) .1 .0)
   finish-shown contingency n h = shown-any commit (simp (any-map, and-true) at h)
   finish-shown conditional n h = shown-any commit (simp (any-map, and-true) at h)
+  finish-shown waiting n h = shown-all commit (simp (all-map, or-false) at h)
 
   pub abort-shown : (k : Kind) → (k ≡ task → ⊥) → holds H (abortBy k v cs) ≡ true → Shown abort
   unfolding holds abortBy any all
   abort-shown task n h = absurd (n refl)
   abort-shown serial n h = shown-any abort (simp (any-map, and-true) at h)
-  abort-shown and n h = shown-any abort ((simp (all-append, all-map, any-map, or-false, both) at h) .1 .0)
+  abort-shown and n h = shown-any abort (simp (any-map, and-true) at h)
   abort-shown or n h = shown-all abort (simp (all-map, or-false) at h)
   abort-shown xor n h = shown-all abort (simp (all-map, or-false) at h)
   abort-shown contingency n h = shown-last abort (simp (or-false, and-true) at h)
   abort-shown conditional n h = shown-any abort (simp (any-map, and-true) at h)
+  abort-shown waiting n h = shown-any abort ((simp (all-append, all-map, any-map, or-false, both) at h) .1 .0)
 
 -- of two, each as f only where its own branch is answered
 pub branch-only : (f : ℕ → Bool) (cs : List ℕ) (t : Answer) → Rising 0 cs → length cs ≡ 2 →

@@ -15,7 +15,7 @@ use Rattle.lists.proofs.Logic.{cases, no-bool, parts, clash, decided}
 use Rattle.lists.proofs.Members.{all-at, any-at}
 use Rattle.lists.proofs.Table.{table-by}
 use Rattle.lists.proofs.Points.{any-grows}
-use Rattle.plan.specs.Plan.{Kind, task, serial, and, or, xor, contingency, conditional, kindNumber, isKind, size, kind, children, above, inXor}
+use Rattle.plan.specs.Plan.{Kind, task, serial, and, or, xor, contingency, conditional, waiting, kindNumber, isKind, size, kind, children, above, inXor}
 use Rattle.plan.specs.Check.{Accepted}
 use Rattle.plan.proofs.AcceptedLaws.{child-between}
 use Rattle.central.specs.Mark.{committed, failed, turned-down, markNumber, isMark}
@@ -90,11 +90,12 @@ module _ (p : List ℕ) (ok : Accepted p) (s : Central) (good : Good p s) (stuck
     unfolding badPick closes failsBy
     fails-right task k e h = (refl, rw (failed-answer k e))
     fails-right serial k e h = (refl, ap not (i .broke ∙ h))
-    fails-right and k e h = let o : any (marked s failed) (children p v) ≡ true = search parts in (refl, ap not (i .broke ∙ o))
+    fails-right and k e h = (refl, ap not (i .broke ∙ h))
     fails-right or k e h = (refl, none-worked h)
     fails-right xor k e h = (rw (none-worked h, none-picked k h), none-worked h)
     fails-right contingency k e h = (refl, none-worked h)
     fails-right conditional k e h = (refl, branch-failed k h)
+    fails-right waiting k e h = let o : any (marked s failed) (children p v) ≡ true = search parts in (refl, ap not (i .broke ∙ o))
 
     none-broke : all (marked s committed) (children p v) ≡ true → t .tally .broke ≡ false
     none-broke e = i .broke ∙ no-bool _ (λ x.
@@ -117,6 +118,7 @@ module _ (p : List ℕ) (ok : Accepted p) (s : Central) (good : Good p s) (stuck
         (rw (one-worked o, i .chosen k ∙ o), one-worked o)
     works-right contingency k e h = (refl, one-worked h)
     works-right conditional k e h = (refl, one-worked (by-branch p ok s good v small (marked s committed) (commit-started p s) k ∙ h))
+    works-right waiting k e h = (refl, ap not (none-broke h))
 
     close-right : Settles p s v m (close (kind p v) (getD a v 0) t)
     unfolding close endOf outcomeOf said saidBy
@@ -138,6 +140,7 @@ module _ (p : List ℕ) (ok : Accepted p) (s : Central) (good : Good p s) (stuck
   answer-right or k = refl
   answer-right xor k = refl
   answer-right contingency k = refl
+  answer-right waiting k = refl
   answer-right conditional k = cases (is-answered p ok s stuck v small k st)
       (λ e. rw (yes-answer p ok s good stuck a agree v small st e)) (λ e. rw (no-answer p ok s good stuck a agree v small st e))
 

@@ -13,7 +13,7 @@ use Rattle.lists.specs.Member.{Either, In, here}
 use Rattle.lists.proofs.Logic.{cases, same-bool, no-bool, clash, decided}
 use Rattle.lists.proofs.Members.{all-at, all-by, any-at, in-some}
 use Rattle.lists.proofs.Points.{any-none, in-right, any-keep, in-earlier, earlier-in, earlier-split, place-injective}
-use Rattle.plan.specs.Plan.{Kind, task, serial, and, or, xor, contingency, conditional, kindNumber, isKind, size, kind, children}
+use Rattle.plan.specs.Plan.{Kind, task, serial, and, or, xor, contingency, conditional, waiting, kindNumber, isKind, size, kind, children}
 use Rattle.plan.specs.Check.{Accepted}
 use Rattle.plan.proofs.PlanLaws.{rising-children, child-of}
 use Rattle.event.specs.Event.{at, same}
@@ -122,6 +122,7 @@ module _ (p : List ℕ) (ok : Accepted p) (s : Central) (good : Good p s) (stuck
       goes-kind xor k = sym (all-start p ok s good stuck v small st kids (λ d. rw k) c here-in)
       goes-kind contingency k = goes-contingency k
       goes-kind conditional k = goes-conditional k
+      goes-kind waiting k = sym (all-start p ok s good stuck v small st kids (λ d. rw k) c here-in)
 
       goes-right : goes (kind p v) (getD a v 0) (t .tally) ≡ started s c
       unfolding goes

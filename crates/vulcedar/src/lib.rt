@@ -3,6 +3,7 @@
 ghost use mathlib.Core.Path.{_≡_};
 ghost use Prim.Native.Nat.{_+_, _*_, _≤_};
 ghost use Rattle.plan.specs.Check.{checkNumber};
+ghost use Rattle.rewrite.specs.Rewrite.{rewriteOf};
 ghost use Rattle.guard.specs.Written.{writeOf};
 ghost use Rattle.site.specs.Step.{stepOf, hearOf};
 ghost use Rattle.central.specs.Rule.{ruleOf};
@@ -27,6 +28,14 @@ pub extern "C" fn vulcedar_check(plan: &[u8]) -> u32
     ensures { λ r. ⌜ r ≡ result (checkNumber (now (plan .entry))) 0 0 ⌝ }
 {
     packed(plan::check(plan), 0)
+}
+
+#[no_mangle]
+pub extern "C" fn vulcedar_rewrite(plan: &[u8], out: &mut [u8]) -> u32
+    ensures { λ r. ⌜ r ≡ result (rewriteOf (now (plan .entry)) (now (out .entry)) .number) 0 0 ⌝ }
+    ensures { λ r. ⌜ now (out .exit) ≡ rewriteOf (now (plan .entry)) (now (out .entry)) .out ⌝ }
+{
+    packed(rewrite::rewrite(plan, out), 0)
 }
 
 #[no_mangle]

@@ -7,7 +7,8 @@ use differential::driver::Step;
 use std::hint::black_box;
 
 /// The measured functions.
-pub const NAMES: [&str; 8] = ["check", "guard", "step", "hear", "pass", "simulate", "record", "central"];
+pub const NAMES: [&str; 9] =
+    ["check", "rewrite", "guard", "step", "hear", "pass", "simulate", "record", "central"];
 
 /// How often functions without events are called in a round.
 const CALLS: usize = 100;
@@ -19,6 +20,7 @@ pub struct Work {
     buffer: [u8; 300],
     out: Vec<u8>,
     more: Vec<u8>,
+    rewritten: Vec<u8>,
 }
 
 impl Work {
@@ -31,13 +33,14 @@ impl Work {
             buffer: [0; 300],
             out: vec![0; nodes],
             more: vec![0; nodes],
+            rewritten: vec![0; 2 * nodes],
         }
     }
 
     /// How many calls a round has.
     pub fn calls(&self) -> usize {
         match self.function {
-            "check" | "pass" | "record" => CALLS,
+            "check" | "rewrite" | "pass" | "record" => CALLS,
             "simulate" => self.fixture.steps.len(),
             _ => self.fixture.events.len(),
         }
@@ -47,6 +50,10 @@ impl Work {
     pub fn run(&mut self, subject: &mut impl Implementation) -> u32 {
         match self.function {
             "check" => self.repeat(|work| subject.check(black_box(&work.fixture.plan))),
+            "rewrite" => self.repeat(|work| {
+                let plan = &work.fixture.plan;
+                subject.rewrite(black_box(plan), &mut work.rewritten)
+            }),
             "pass" => self.repeat(|work| {
                 subject.pass(black_box(&work.fixture.plan), &work.fixture.answers, &mut work.out)
             }),

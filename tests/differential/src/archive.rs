@@ -14,6 +14,10 @@ impl Implementation for Archive {
         vulcedar::check(plan)
     }
 
+    fn rewrite(&mut self, plan: &[u8], out: &mut [u8]) -> u32 {
+        vulcedar::rewrite(plan, out)
+    }
+
     fn guard(&mut self, plan: &[u8], code: u32, node: u32, buffer: &mut [u8]) -> u32 {
         vulcedar::guard(plan, code, node, buffer)
     }

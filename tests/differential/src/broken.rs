@@ -31,8 +31,12 @@ pub enum Mistake {
     SetsNothing,
     /// No plan is good enough.
     RefusesEveryPlan,
-    /// An and fails while children still run.
-    AndFailsAtOnce,
+    /// An and waits for all children before it fails, as it once did.
+    AndWaits,
+    /// The written abort guard of an and is the one it once had.
+    AndGuardStaysOld,
+    /// A waiting and fails while children still run.
+    WaitingAndFailsAtOnce,
     /// A conditional's second child starts on yes.
     SecondBranchOnYes,
     /// Numbers are cut to a byte, so that code 257 is a start.
@@ -65,8 +69,22 @@ pub enum Mistake {
     BlocksAreFiled,
     /// The central rule picks a second time.
     CentralPicksTwice,
-    /// The central rule lets an and fail while children still run.
-    CentralAndFailsAtOnce,
+    /// The central rule has an and wait before it fails.
+    CentralAndWaits,
+    /// The central rule lets a waiting and fail while children still run.
+    CentralWaitingAndFailsAtOnce,
+    /// The pass takes a waiting and for an or.
+    PassTakesWaitingAndForOr,
+    /// The kind 08 is refused.
+    RefusesKind8,
+    /// A rewrite makes an or wait too.
+    RewriteTouchesOr,
+    /// A rewrite takes a parent's number for a kind.
+    RewriteTouchesParents,
+    /// A rewrite leaves the root as it is.
+    RewriteSparesTheRoot,
+    /// A rewrite into too few bytes writes as many as there are.
+    RefusedRewriteWrites,
     /// One level more than there may be.
     OneLevelMore,
     /// Parents are looked at before kinds.
@@ -79,7 +97,7 @@ pub enum Mistake {
 
 impl Mistake {
     /// All mistakes; the first is number 1.
-    pub const ALL: [Mistake; 33] = [
+    pub const ALL: [Mistake; 42] = [
         Mistake::CommitUnlessAbortHeard,
         Mistake::PickAtTheChild,
         Mistake::TurnedDownStillRuns,
@@ -91,7 +109,9 @@ impl Mistake {
         Mistake::SameGuardForAll,
         Mistake::SetsNothing,
         Mistake::RefusesEveryPlan,
-        Mistake::AndFailsAtOnce,
+        Mistake::AndWaits,
+        Mistake::AndGuardStaysOld,
+        Mistake::WaitingAndFailsAtOnce,
         Mistake::SecondBranchOnYes,
         Mistake::NumbersCut,
         Mistake::GuardBeforeBars,
@@ -108,7 +128,14 @@ impl Mistake {
         Mistake::OfferedBeforeTurnedDown,
         Mistake::BlocksAreFiled,
         Mistake::CentralPicksTwice,
-        Mistake::CentralAndFailsAtOnce,
+        Mistake::CentralAndWaits,
+        Mistake::CentralWaitingAndFailsAtOnce,
+        Mistake::PassTakesWaitingAndForOr,
+        Mistake::RefusesKind8,
+        Mistake::RewriteTouchesOr,
+        Mistake::RewriteTouchesParents,
+        Mistake::RewriteSparesTheRoot,
+        Mistake::RefusedRewriteWrites,
         Mistake::OneLevelMore,
         Mistake::ParentsBeforeKinds,
         Mistake::TextWithReturns,
@@ -138,7 +165,7 @@ impl Broken {
         let tree = Tree::new(plan);
         let mut view = row.to_vec();
         self.misread(&tree, code, node as usize, &mut view);
-        let result = self.honest.step(plan, code, node, &mut view);
+        let result = self.honest.step(&self.misread_kinds(plan), code, node, &mut view);
         let applies = matches!(number(result), 0 | 10 | 11);
         let at = result & 0xff00;
         match self.mistake {
@@ -158,6 +185,15 @@ impl Broken {
         if self.mistake == Mistake::SiteLeftOut { result & !0xff00 } else { result }
     }
 
+    /// What the mistake makes of a plan's kinds before it decides.
+    fn misread_kinds(&self, plan: &[u8]) -> Vec<u8> {
+        match self.mistake {
+            Mistake::AndWaits => with_kind(plan, AND, WAITING_AND),
+            Mistake::WaitingAndFailsAtOnce => with_kind(plan, WAITING_AND, AND),
+            _ => plan.to_vec(),
+        }
+    }
+
     /// What the mistake makes of a row before it decides.
     fn misread(&self, tree: &Tree, code: u32, node: usize, view: &mut [u8]) {
         let children = tree.children.get(node).map_or(&[][..], Vec::as_slice);
@@ -170,9 +206,6 @@ impl Broken {
             }
             Mistake::TurnedDownStillRuns if finishing && is(XOR) => {
                 children.iter().for_each(|&child| view[child] &= !bit(TURNED_DOWN));
-            }
-            Mistake::AndFailsAtOnce if code == ABORT && is(AND) && aborted => {
-                children.iter().for_each(|&child| view[child] |= bit(COMMIT));
             }
             Mistake::OfferedMayFail if code == ABORT && node < view.len() => view[node] &= !bit(OFFER),
             Mistake::ContingencyStartsEarly if code == START => {
@@ -249,13 +282,33 @@ impl Implementation for Broken {
         let honest = self.honest.check(plan);
         match self.mistake {
             Mistake::RefusesEveryPlan => 1,
+            Mistake::RefusesKind8 if honest != 1 && plan.iter().step_by(2).any(|&kind| kind == 8) => 2,
             Mistake::OneLevelMore if honest == 6 && levels(plan) == 33 => 0,
             Mistake::ParentsBeforeKinds if honest == 2 && !parents_are_right(plan) => 3,
             _ => honest,
         }
     }
 
+    fn rewrite(&mut self, plan: &[u8], out: &mut [u8]) -> u32 {
+        let result = self.honest.rewrite(plan, out);
+        match (self.mistake, number(result)) {
+            (Mistake::RewriteTouchesOr, 0) => out.copy_from_slice(&with_kind(out, OR, WAITING_AND)),
+            (Mistake::RewriteTouchesParents, 0) => {
+                out.iter_mut().filter(|byte| **byte == AND).for_each(|byte| *byte = WAITING_AND);
+            }
+            (Mistake::RewriteSparesTheRoot, 0) => out[0] = plan[0],
+            (Mistake::RefusedRewriteWrites, 7) => {
+                out.iter_mut().zip(plan).for_each(|(byte, of_plan)| *byte = *of_plan);
+            }
+            _ => {}
+        }
+        result
+    }
+
     fn guard(&mut self, plan: &[u8], code: u32, node: u32, buffer: &mut [u8]) -> u32 {
+        if self.mistake == Mistake::AndGuardStaysOld {
+            return self.honest.guard(&with_kind(plan, AND, WAITING_AND), code, node, buffer);
+        }
         let before = buffer.len();
         let result = self.honest.guard(plan, self.cut(code), self.cut(node), buffer);
         let length = value(result) as usize;
@@ -311,7 +364,12 @@ impl Implementation for Broken {
         {
             return 13;
         }
-        let result = self.honest.pass(plan, answers, marks);
+        let result = match self.mistake {
+            Mistake::PassTakesWaitingAndForOr => {
+                self.honest.pass(&with_kind(plan, WAITING_AND, OR), answers, marks)
+            }
+            _ => self.honest.pass(plan, answers, marks),
+        };
         match self.mistake {
             Mistake::RefusedPassWrites if matches!(number(result), 13 | 14) => marks[0] = 4,
             Mistake::LosersStayOffered if result == 0 => {
@@ -363,20 +421,18 @@ impl Implementation for Broken {
 
     fn central(&mut self, plan: &[u8], code: u32, node: u32, marks: &mut [u8], notes: &mut [u8]) -> u32 {
         let (code, node) = (self.cut(code), self.cut(node));
-        let (mut seen_marks, mut seen_notes) = (marks.to_vec(), notes.to_vec());
-        match self.mistake {
-            Mistake::CentralPicksTwice if code == PICK => {
-                seen_notes.iter_mut().for_each(|note| *note &= !bit(PICK));
-            }
-            Mistake::CentralAndFailsAtOnce if code == ABORT => {
-                fail_children_of_and(plan, node as usize, &mut seen_marks);
-            }
-            _ => return self.honest.central(plan, code, node, marks, notes),
+        let plan = match self.mistake {
+            Mistake::CentralAndWaits => with_kind(plan, AND, WAITING_AND),
+            Mistake::CentralWaitingAndFailsAtOnce => with_kind(plan, WAITING_AND, AND),
+            _ => plan.to_vec(),
+        };
+        if self.mistake != Mistake::CentralPicksTwice || code != PICK {
+            return self.honest.central(&plan, code, node, marks, notes);
         }
-        let result = self.honest.central(plan, code, node, &mut seen_marks, &mut seen_notes);
+        let mut unpicked: Vec<u8> = notes.iter().map(|note| note & !bit(PICK)).collect();
+        let result = self.honest.central(&plan, code, node, marks, &mut unpicked);
         if value(result) == 1 {
-            marks[node as usize] = seen_marks[node as usize];
-            notes[node as usize] |= seen_notes[node as usize];
+            notes[node as usize] |= unpicked[node as usize];
         }
         result
     }
@@ -395,17 +451,11 @@ impl Implementation for Broken {
     }
 }
 
-/// If one child of an and has failed, makes the others look ended.
-fn fail_children_of_and(plan: &[u8], node: usize, marks: &mut [u8]) {
-    if plan.get(2 * node) != Some(&AND) {
-        return;
-    }
-    let nodes = plan.len().min(2 * marks.len()) / 2;
-    let is_child = |child: &usize| usize::from(plan[2 * child + 1]) == node;
-    let children: Vec<usize> = (node + 1..nodes).filter(is_child).collect();
-    if children.iter().any(|&child| marks[child] == 4) {
-        children.iter().for_each(|&child| marks[child] = 4);
-    }
+/// The plan with one kind taken for another.
+fn with_kind(plan: &[u8], from: u8, to: u8) -> Vec<u8> {
+    let mut plan = plan.to_vec();
+    plan.iter_mut().step_by(2).filter(|kind| **kind == from).for_each(|kind| *kind = to);
+    plan
 }
 
 /// Reports a refused plan although the text goes wrong further on.

@@ -16,6 +16,8 @@ pub fn damaged_plans<S: Implementation, R: Implementation>(trial: &mut Trial<S, 
     for _ in 0..20 {
         let plan = plans::damaged(random);
         trial.check(&plan);
+        let out_length = length(random, plan.len());
+        trial.rewrite(&plan, &random.bytes(out_length));
         let nodes = plan.len() / 2;
         let (code, node) = event(random, nodes);
         let site = if random.chance(50) { HAPPENS } else { any_node(random, nodes) };
@@ -29,6 +31,30 @@ pub fn damaged_plans<S: Implementation, R: Implementation>(trial: &mut Trial<S, 
         trial.simulate(&plan, code, node, site, &state);
         trial.record(&plan, &state, &one, &two);
         trial.central(&plan, code, node, &one, &two);
+    }
+}
+
+/// Plans with and-blocks of both kinds rewritten, into bytes of any length,
+/// and the guards and passes of what comes out.
+pub fn rewrites<S: Implementation, R: Implementation>(
+    trial: &mut Trial<S, R>,
+    random: &mut Random,
+    plan: &[u8],
+) {
+    let mut plan = plan.to_vec();
+    for kind in plan.iter_mut().step_by(2).filter(|kind| !matches!(**kind, TASK | CONDITIONAL)) {
+        *kind = if random.chance(60) { random.one_of(&[AND, AND, WAITING_AND]) } else { *kind };
+    }
+    for _ in 0..8 {
+        let out_length = length(random, plan.len());
+        trial.rewrite(&plan, &random.bytes(out_length));
+    }
+    let out = random.bytes(plan.len());
+    let (_, rewritten) = trial.rewrite(&plan, &out);
+    let rewritten = rewritten.to_vec();
+    if trial.check(&rewritten) == 0 {
+        guards(trial, random, &rewritten);
+        passes(trial, random, &rewritten);
     }
 }
 
@@ -184,15 +210,15 @@ fn any_node(random: &mut Random, nodes: usize) -> u32 {
     }
 }
 
-/// A length for a buffer of one byte a node; often the right one.
-fn length(random: &mut Random, nodes: usize) -> usize {
+/// A length for a buffer of so many bytes; often the right one.
+fn length(random: &mut Random, right: usize) -> usize {
     match random.below(8) {
         0 => 0,
-        1 => nodes.saturating_sub(1),
-        2 => nodes + 1,
-        3 => 2 * nodes,
-        4 => random.below(nodes + 300),
-        _ => nodes,
+        1 => right.saturating_sub(1),
+        2 => right + 1,
+        3 => 2 * right,
+        4 => random.below(right + 300),
+        _ => right,
     }
 }
 
@@ -281,7 +307,7 @@ fn settle(random: &mut Random, tree: &Tree, failing: usize, answers: &mut [u8], 
             if kind == XOR {
                 answers[node] = if offers.is_empty() { 0 } else { random.one_of(&offers) as u8 + 1 };
             }
-            if kind == AND { offers.len() == works.len() } else { !offers.is_empty() }
+            if matches!(kind, AND | WAITING_AND) { offers.len() == works.len() } else { !offers.is_empty() }
         }
     }
 }

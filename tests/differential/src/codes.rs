@@ -25,7 +25,7 @@ pub const HAPPENS: u32 = 0xff;
 pub const TASK: u8 = 1;
 /// Children in turn.
 pub const SERIAL: u8 = 2;
-/// All children needed.
+/// All children needed; fails once one failed.
 pub const AND: u8 = 3;
 /// One child needed.
 pub const OR: u8 = 4;
@@ -35,6 +35,8 @@ pub const XOR: u8 = 5;
 pub const CONTINGENCY: u8 = 6;
 /// One of two children.
 pub const CONDITIONAL: u8 = 7;
+/// All children needed; fails once all have ended.
+pub const WAITING_AND: u8 = 8;
 
 /// The number in a packed result; 0 is passed.
 pub fn number(result: u32) -> u8 {

@@ -1,4 +1,4 @@
-//! What is compared: the eight functions and the program.
+//! What is compared: the functions and the program.
 
 use reference::exported;
 
@@ -7,6 +7,8 @@ use reference::exported;
 pub trait Implementation {
     /// Checks a plan.
     fn check(&mut self, plan: &[u8]) -> u32;
+    /// Rewrites a plan from before kind 08.
+    fn rewrite(&mut self, plan: &[u8], out: &mut [u8]) -> u32;
     /// Writes a guard.
     fn guard(&mut self, plan: &[u8], code: u32, node: u32, buffer: &mut [u8]) -> u32;
     /// An event at its site.
@@ -31,6 +33,10 @@ pub struct Reference;
 impl Implementation for Reference {
     fn check(&mut self, plan: &[u8]) -> u32 {
         exported::check(plan)
+    }
+
+    fn rewrite(&mut self, plan: &[u8], out: &mut [u8]) -> u32 {
+        exported::rewrite(plan, out)
     }
 
     fn guard(&mut self, plan: &[u8], code: u32, node: u32, buffer: &mut [u8]) -> u32 {

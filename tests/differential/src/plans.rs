@@ -1,6 +1,6 @@
 //! Plans, good and damaged.
 
-use crate::codes::{CONDITIONAL, TASK};
+use crate::codes::{AND, CONDITIONAL, CONTINGENCY, OR, SERIAL, TASK, WAITING_AND, XOR};
 use crate::random::Random;
 
 /// The most nodes, children and levels a plan may have.
@@ -56,7 +56,7 @@ fn chain(random: &mut Random, levels: usize) -> Vec<u8> {
 }
 
 fn block_with_one_child(random: &mut Random) -> u8 {
-    random.between(2, 6) as u8
+    random.one_of(&[SERIAL, AND, OR, XOR, CONTINGENCY, WAITING_AND])
 }
 
 /// A root with tasks; so many nodes in all.
@@ -94,8 +94,11 @@ impl Grower<'_> {
 
     /// A block's kind whose children there is space for.
     fn block(&mut self) -> u8 {
-        let last = if self.spare >= 2 { CONDITIONAL } else { CONDITIONAL - 1 };
-        self.random.between(2, usize::from(last)) as u8
+        let has_space_for_two = self.spare >= 2;
+        if has_space_for_two && self.random.below(7) == 0 {
+            return CONDITIONAL;
+        }
+        block_with_one_child(self.random)
     }
 
     fn add(&mut self, kind: u8, parent: u8, level: usize) {
@@ -198,7 +201,7 @@ fn damage_length(random: &mut Random, plan: &mut Vec<u8>) {
 
 fn damage_kind(random: &mut Random, plan: &mut [u8]) {
     if let Some(node) = any_node(random, plan) {
-        plan[2 * node] = random.one_of(&[0, 8, 9, 128, 254, 255]);
+        plan[2 * node] = random.one_of(&[0, 9, 10, 128, 254, 255]);
     }
 }
 

@@ -75,6 +75,7 @@ fn run_part<S: Implementation, R: Implementation>(trial: &mut Trial<S, R>, seed:
         4 | 20 => calls::views(trial, random, &plan),
         5 | 21 => calls::states(trial, random, &plan),
         6 => calls::lengths(trial, random, &plan),
+        22 => calls::rewrites(trial, random, &plan),
         7 => job::rehearse(trial, random, &plan),
         8 | 9 => jobs(trial, random, 20, 60, 1),
         10..=15 => jobs(trial, random, 8, 20, 1),

@@ -10,6 +10,8 @@ const SHOWN: usize = 10;
 pub enum Function {
     /// `vulcedar_check`
     Check,
+    /// `vulcedar_rewrite`
+    Rewrite,
     /// `vulcedar_guard`
     Guard,
     /// `vulcedar_step`
@@ -30,7 +32,7 @@ pub enum Function {
 }
 
 /// How many functions there are.
-const FUNCTIONS: usize = 9;
+const FUNCTIONS: usize = 10;
 /// How many numbers there are, with 0 for passed.
 const NUMBERS: usize = 16;
 
@@ -38,6 +40,7 @@ impl Function {
     /// All of them, in the order of the table.
     pub const ALL: [Function; FUNCTIONS] = [
         Function::Check,
+        Function::Rewrite,
         Function::Guard,
         Function::Step,
         Function::Hear,
@@ -52,6 +55,7 @@ impl Function {
     pub fn name(self) -> &'static str {
         match self {
             Function::Check => "check",
+            Function::Rewrite => "rewrite",
             Function::Guard => "guard",
             Function::Step => "step",
             Function::Hear => "hear",
@@ -72,7 +76,7 @@ impl Function {
             Function::Step => &[0, 1, 2, 3, 4, 5, 6, 7, 8, 9, 10, 11],
             Function::Pass => &[0, 1, 2, 3, 4, 5, 6, 7, 13, 14],
             Function::Simulate => &[0, 1, 2, 3, 4, 5, 6, 7, 8, 9, 10, 11, 12],
-            Function::Record => &[0, 1, 2, 3, 4, 5, 6, 7],
+            Function::Rewrite | Function::Record => &[0, 1, 2, 3, 4, 5, 6, 7],
             Function::Rehearse => &[0, 1, 2, 3, 4, 5, 6, 8, 9, 10, 11, 12, 15],
         }
     }

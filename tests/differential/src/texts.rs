@@ -177,7 +177,7 @@ fn noise(random: &mut Random) -> Vec<u8> {
 /// Lines that each look right, in any order and with any numbers.
 fn random_lines(random: &mut Random) -> Vec<u8> {
     let nodes = random.below(5);
-    let plan: Vec<u8> = (0..2 * nodes).map(|_| random.one_of(&[1, 1, 2, 3, 0, 0xff])).collect();
+    let plan: Vec<u8> = (0..2 * nodes).map(|_| random.one_of(&[1, 1, 2, 3, 8, 0, 0xff])).collect();
     let steps: Vec<[u8; 3]> =
         (0..random.below(6)).map(|_| [random.byte() % 10, random.byte() % 5, 0xff]).collect();
     text_of(&plan, &steps)

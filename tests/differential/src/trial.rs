@@ -2,7 +2,7 @@
 //! canaries around them, and what the rules say about bytes that stay: a
 //! refused call leaves all, a passed step sets one bit.
 
-use crate::codes::{HAPPENS, PICK, number, value};
+use crate::codes::{AND, HAPPENS, PICK, WAITING_AND, number, value};
 use crate::implementation::Implementation;
 use crate::lent::{Lent, Pair};
 use crate::tally::{Function, Tally};
@@ -51,6 +51,24 @@ impl<S: Implementation, R: Implementation> Trial<S, R> {
         let call = Call { function: Function::Check, plan, numbers: &[], lent: &[] };
         self.judge(call, ours, theirs, true);
         ours
+    }
+
+    /// Rewrites a plan into bytes that hold these; answers the subject's
+    /// bytes too.
+    pub fn rewrite(&mut self, plan: &[u8], out: &[u8]) -> (u32, &[u8]) {
+        self.plan.load(plan);
+        self.one.load(out);
+        let theirs = self.subject.rewrite(self.plan.bytes(), self.one.subject.bytes_mut());
+        let ours = self.reference.rewrite(plan, &mut self.one.reference);
+        let right = if number(ours) == 0 {
+            self.one.subject.is_still(&and_waiting(plan))
+        } else {
+            self.one.is_untouched()
+        };
+        let same = self.one.agrees() && right;
+        let call = Call { function: Function::Rewrite, plan, numbers: &[], lent: &[out] };
+        self.judge(call, ours, theirs, same);
+        (ours, self.one.subject.bytes())
     }
 
     /// Writes a guard to a buffer that holds these bytes.
@@ -220,6 +238,14 @@ impl Call<'_> {
 /// Bytes as text, for describing a call.
 pub fn hex(bytes: &[u8]) -> String {
     bytes.iter().map(|byte| format!("{byte:02x}")).collect()
+}
+
+/// The plan with every and a waiting one.
+fn and_waiting(plan: &[u8]) -> Vec<u8> {
+    let kind_or_parent = |(place, &byte): (usize, &u8)| {
+        if place % 2 == 0 && byte == AND { WAITING_AND } else { byte }
+    };
+    plan.iter().enumerate().map(kind_or_parent).collect()
 }
 
 /// Where in the state a step sets its bit: in the row of the event's site, or

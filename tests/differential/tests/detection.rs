@@ -39,7 +39,8 @@ fn a_mistake_on_both_sides_is_found() {
         Mistake::AllEndedAtTheRootsStart,
         Mistake::GuardNeverHolds,
         Mistake::SetsNothing,
-        Mistake::AndFailsAtOnce,
+        Mistake::AndWaits,
+        Mistake::WaitingAndFailsAtOnce,
         Mistake::SecondBranchOnYes,
         Mistake::FalseMessageBelieved,
         Mistake::MessageInTheWrongRow,
@@ -50,7 +51,13 @@ fn a_mistake_on_both_sides_is_found() {
         Mistake::OfferedBeforeTurnedDown,
         Mistake::BlocksAreFiled,
         Mistake::CentralPicksTwice,
-        Mistake::CentralAndFailsAtOnce,
+        Mistake::CentralAndWaits,
+        Mistake::CentralWaitingAndFailsAtOnce,
+        Mistake::PassTakesWaitingAndForOr,
+        Mistake::RewriteTouchesOr,
+        Mistake::RewriteTouchesParents,
+        Mistake::RewriteSparesTheRoot,
+        Mistake::RefusedRewriteWrites,
     ];
     let options = Options { seed: 15, steps: 1_000_000, texts: 0, enough: 1, only: None };
     for mistake in mistakes {

@@ -173,9 +173,9 @@ impl Children {
     fn are_due(&self, kind: Kind, ending: Ending) -> bool {
         let ended = self.committed + self.failed;
         match (kind, ending) {
-            (Kind::Serial | Kind::And, Ending::Finish) => self.committed == self.all,
-            (Kind::Serial, Ending::Fail) => self.failed > 0,
-            (Kind::And, Ending::Fail) => ended == self.all && self.failed > 0,
+            (Kind::Serial | Kind::And | Kind::WaitingAnd, Ending::Finish) => self.committed == self.all,
+            (Kind::Serial | Kind::And, Ending::Fail) => self.failed > 0,
+            (Kind::WaitingAnd, Ending::Fail) => ended == self.all && self.failed > 0,
             (Kind::Or, Ending::Finish) => ended == self.all && self.committed > 0,
             (Kind::Xor, Ending::Finish) => ended + self.turned_down == self.all && self.committed > 0,
             (Kind::Contingency, Ending::Finish) => self.committed > 0,

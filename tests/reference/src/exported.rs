@@ -9,7 +9,7 @@ use crate::refusal::Refusal;
 use crate::simulate::Outcome;
 use crate::site::Verdict;
 use crate::{central as central_rule, guard as guards, pass as passes, plan, record as records};
-use crate::{simulate as simulation, site as sites};
+use crate::{rewrite as rewriting, simulate as simulation, site as sites};
 
 /// The number in a packed result.
 pub fn number(result: u32) -> u8 {
@@ -30,6 +30,12 @@ pub fn value(result: u32) -> u32 {
 #[inline(never)]
 pub fn check(plan: &[u8]) -> u32 {
     done(plan::Plan::check(plan).map(|_| ()))
+}
+
+/// Rewrites a plan from before kind 08. 1 to 7.
+#[inline(never)]
+pub fn rewrite(plan: &[u8], out: &mut [u8]) -> u32 {
+    done(rewriting::rewrite(plan, out))
 }
 
 /// Writes a guard; the value is its length. 1 to 6, 8, 9, 7.

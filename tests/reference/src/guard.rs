@@ -137,7 +137,7 @@ fn finishing(plan: &Plan, node: usize) -> Guard {
     match plan.kind(node) {
         Kind::Task => Guard::One(Event { code: Code::Start, node }),
         Kind::Serial => last_child(plan, node, Code::Commit),
-        Kind::And => over(COMMIT, None),
+        Kind::And | Kind::WaitingAnd => over(COMMIT, None),
         Kind::Or => over(ENDED, Some(Code::Commit)),
         Kind::Xor => over(DECIDED, Some(Code::Commit)),
         Kind::Contingency | Kind::Conditional => over(&[], Some(Code::Commit)),
@@ -151,8 +151,8 @@ fn abort(plan: &Plan, node: usize) -> Guard {
     let over = |each, any| Guard::OverChildren { of: node, each, any };
     match plan.kind(node) {
         Kind::Task => Guard::One(Event { code: Code::Start, node }),
-        Kind::Serial | Kind::Conditional => over(&[], Some(Code::Abort)),
-        Kind::And => over(ENDED, Some(Code::Abort)),
+        Kind::Serial | Kind::And | Kind::Conditional => over(&[], Some(Code::Abort)),
+        Kind::WaitingAnd => over(ENDED, Some(Code::Abort)),
         Kind::Or | Kind::Xor => over(ABORT, None),
         Kind::Contingency => last_child(plan, node, Code::Abort),
     }

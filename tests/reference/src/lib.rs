@@ -1,6 +1,7 @@
-//! An independent implementation of document 01.
+//! An independent implementation of document 01, with the requests that came
+//! after it.
 //!
-//! It was written from that document alone, so that a mistake made elsewhere
+//! It was written from those papers alone, so that a mistake made elsewhere
 //! is not made here a second time. The C archive is compared with it, and it
 //! is the yardstick for speed: nothing here allocates except the rehearsal
 //! from text.
@@ -25,6 +26,7 @@ pub mod pass;
 pub mod plan;
 pub mod record;
 pub mod refusal;
+pub mod rewrite;
 pub mod simulate;
 pub mod site;
 pub mod text;

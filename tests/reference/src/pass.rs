@@ -53,7 +53,7 @@ impl<'a> Run<'a> {
             Kind::Task => self.answer_is_one(node)?,
             Kind::Serial => self.settle_until(node, false)?,
             Kind::Contingency => self.settle_until(node, true)?,
-            Kind::And => self.settle_all(node)?.failed == 0,
+            Kind::And | Kind::WaitingAnd => self.settle_all(node)?.failed == 0,
             Kind::Or => self.settle_all(node)?.worked > 0,
             Kind::Xor => self.settle_xor(node)?,
             Kind::Conditional => self.settle_branch(node)?,

@@ -19,7 +19,7 @@ pub enum Kind {
     Task = 1,
     /// Children one after another.
     Serial = 2,
-    /// All children, all needed.
+    /// All children, all needed; fails as soon as one failed.
     And = 3,
     /// All children, one needed.
     Or = 4,
@@ -29,6 +29,8 @@ pub enum Kind {
     Contingency = 6,
     /// One of two children, by an answer.
     Conditional = 7,
+    /// As an and, but fails only when all children have ended.
+    WaitingAnd = 8,
 }
 
 impl Kind {
@@ -42,6 +44,7 @@ impl Kind {
             5 => Kind::Xor,
             6 => Kind::Contingency,
             7 => Kind::Conditional,
+            8 => Kind::WaitingAnd,
             _ => return None,
         })
     }
@@ -119,7 +122,7 @@ fn require(met: bool, refusal: Refusal) -> Result<(), Refusal> {
 // way out they are faster on a plan that is right.
 
 fn kinds_known(nodes: &[Node]) -> bool {
-    nodes.iter().fold(true, |known, node| known & (1..=7).contains(&node[0]))
+    nodes.iter().fold(true, |known, node| known & (1..=8).contains(&node[0]))
 }
 
 fn parents_lower(nodes: &[Node]) -> bool {

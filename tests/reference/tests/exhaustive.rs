@@ -6,24 +6,8 @@
 mod common;
 
 use common::*;
-use reference::exported::{central, check, number, record, simulate, value};
+use reference::exported::{central, number, record, simulate, value};
 use std::collections::HashSet;
-
-/// All valid plans with so many nodes.
-fn plans(nodes: usize) -> Vec<Vec<u8>> {
-    let mut open = vec![Vec::new()];
-    for number in 0..nodes {
-        let parents = if number == 0 { vec![0xff] } else { (0..number as u8).collect() };
-        open = open.iter().flat_map(|plan| longer(plan, &parents)).collect();
-    }
-    open.retain(|plan| check(plan) == 0);
-    open
-}
-
-fn longer(plan: &[u8], parents: &[u8]) -> Vec<Vec<u8>> {
-    let nodes = (1..=7).flat_map(|kind| parents.iter().map(move |&parent| [kind, parent]));
-    nodes.map(|node| [plan, &node].concat()).collect()
-}
 
 /// A plan with its events, and the messages that some guard can notice.
 struct World {
@@ -172,7 +156,7 @@ fn every_plan_of_up_to_three_nodes() {
         count += 1;
     }
     println!("{count} plans, {states} states");
-    assert_eq!(count, 1 + 5 + 31);
+    assert_eq!(count, 1 + 6 + 43);
 }
 
 #[test]
@@ -199,6 +183,13 @@ fn some_larger_plans() {
         "06ff 0500 0100 0101 0101",
         "04ff 0500 0100 0101 0101",
         "03ff 0500 0101 0101 0100",
+        "08ff 0500 0101 0101 0100",
+        "02ff 0300 0100 0101 0101",
+        "06ff 0300 0100 0101 0101",
+        "05ff 0300 0100 0101 0101",
+        "05ff 0800 0100 0101 0101",
+        "08ff 0300 0100 0101 0101",
+        "03ff 0800 0100 0101 0101",
         "05ff 0100 0100 0100",
     ];
     for plan in some {

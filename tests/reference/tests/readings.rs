@@ -186,9 +186,16 @@ fn central_ends_of_each_kind() {
     assert_eq!(ends("02", [3, 4]), fail);
     assert_eq!(ends("02", [4, 0]), fail);
     assert_eq!(ends("03", [3, 3]), finish);
-    assert_eq!(ends("03", [4, 1]), neither, "it waits for the running one");
+    assert_eq!(ends("03", [3, 1]), neither);
+    assert_eq!(ends("03", [4, 1]), fail, "one that failed is enough");
+    assert_eq!(ends("03", [0, 4]), fail);
     assert_eq!(ends("03", [4, 3]), fail);
     assert_eq!(ends("03", [4, 4]), fail);
+    assert_eq!(ends("08", [3, 3]), finish);
+    assert_eq!(ends("08", [4, 1]), neither, "it waits for the running one");
+    assert_eq!(ends("08", [0, 4]), neither);
+    assert_eq!(ends("08", [4, 3]), fail);
+    assert_eq!(ends("08", [4, 4]), fail);
     assert_eq!(ends("04", [3, 1]), neither);
     assert_eq!(ends("04", [3, 4]), finish);
     assert_eq!(ends("04", [4, 4]), fail);

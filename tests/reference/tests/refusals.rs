@@ -21,7 +21,7 @@ fn refused_plans() -> Vec<(u32, Vec<u8>)> {
         (1, plan_of(161)),
         (1, plan_of(170)),
         (2, hex("00ff")),
-        (2, hex("08ff")),
+        (2, hex("09ff")),
         (2, hex("02ff ff00")),
         (3, hex("0100")),
         (3, hex("0101")),
@@ -34,6 +34,8 @@ fn refused_plans() -> Vec<(u32, Vec<u8>)> {
         (5, hex("07ff 0100")),
         (5, hex("07ff 0100 0100 0100")),
         (5, hex("03ff 0200")),
+        (5, hex("08ff")),
+        (5, [hex("08ff"), serial_of(33)[2..].to_vec()].concat()),
         (5, serial_of(33)),
         (6, chain(33)),
         (6, chain(160)),
@@ -45,7 +47,7 @@ fn refused_plans() -> Vec<(u32, Vec<u8>)> {
 /// Lower numbers win, over the whole plan: the later fault stands first.
 #[test]
 fn order_among_plan_refusals() {
-    assert_eq!(check(&hex("0001 08ff 01")), 1);
+    assert_eq!(check(&hex("0001 09ff 01")), 1);
     assert_eq!(check(&hex("0200 0000")), 2, "kind of the last before the root's parent");
     assert_eq!(check(&hex("01ff 0100 0105")), 3, "parent of the last before a task as parent");
     assert_eq!(check(&hex("02ff 0200 0100 0102")), 4, "a task as parent before an empty block");
@@ -63,6 +65,7 @@ fn plan_refusals_come_first_everywhere() {
             for (code, node) in [(1, 0), (0, 0), (9, 300), (2, 0)] {
                 let mut lent = vec![LEFT; length];
                 let mut other = vec![LEFT; length];
+                assert_eq!(rewrite(&plan, &mut lent), expected);
                 assert_eq!(guard(&plan, code, node, &mut lent), expected);
                 assert_eq!(step(&plan, code, node, &mut lent), expected);
                 assert_eq!(hear(&plan, code, node, &mut lent), expected);

@@ -26,6 +26,15 @@ fn the_sample() {
     prints(input, "00 0b 00 00 00 00 00 00020300 01010301");
 }
 
+/// What is printed for the texts in examples/ stands beside them.
+#[test]
+fn the_examples() {
+    let day = include_bytes!("../../../examples/captioning-day.txt");
+    assert_eq!(rehearse(day), include_bytes!("../../../examples/captioning-day.out"));
+    let early = include_bytes!("../../../examples/early-end.txt");
+    assert_eq!(rehearse(early), include_bytes!("../../../examples/early-end.out"));
+}
+
 #[test]
 fn no_steps_is_fine() {
     prints("01ff\n--\n", "00010000");
@@ -83,9 +92,9 @@ fn malformed_text_is_15() {
 /// The whole text is looked at before the plan is.
 #[test]
 fn number_15_comes_first() {
-    prints("08ff\n--\n0100ff\nx\n", "0f");
-    prints("08ff\n--\n0100ff\n--\n", "0f");
-    prints("08ff\n--\n0100ff\n", "02");
+    prints("09ff\n--\n0100ff\nx\n", "0f");
+    prints("09ff\n--\n0100ff\n--\n", "0f");
+    prints("09ff\n--\n0100ff\n", "02");
 }
 
 #[test]

@@ -12,27 +12,33 @@ pub fn check(plan: &[u8]) -> u32 {
     unsafe { raw::vulcedar_check(plan.as_ptr(), plan.len()) }
 }
 
+/// Rewrites a plan from before kind 08.
+pub fn rewrite(plan: &[u8], out: &mut [u8]) -> u32 {
+    // SAFETY: as for `check`; what is written is lent for writing alone.
+    unsafe { raw::vulcedar_rewrite(plan.as_ptr(), plan.len(), out.as_mut_ptr(), out.len()) }
+}
+
 /// Writes a guard to the front of the buffer; the value is its length.
 pub fn guard(plan: &[u8], code: u32, node: u32, buffer: &mut [u8]) -> u32 {
-    // SAFETY: as for `check`; what is written is lent for writing alone.
+    // SAFETY: as for `rewrite`.
     unsafe { raw::vulcedar_guard(plan.as_ptr(), plan.len(), code, node, buffer.as_mut_ptr(), buffer.len()) }
 }
 
 /// An event at its site, by the site's row.
 pub fn step(plan: &[u8], code: u32, node: u32, row: &mut [u8]) -> u32 {
-    // SAFETY: as for `guard`.
+    // SAFETY: as for `rewrite`.
     unsafe { raw::vulcedar_step(plan.as_ptr(), plan.len(), code, node, row.as_mut_ptr(), row.len()) }
 }
 
 /// A message into a site's row.
 pub fn hear(plan: &[u8], code: u32, node: u32, row: &mut [u8]) -> u32 {
-    // SAFETY: as for `guard`.
+    // SAFETY: as for `rewrite`.
     unsafe { raw::vulcedar_hear(plan.as_ptr(), plan.len(), code, node, row.as_mut_ptr(), row.len()) }
 }
 
 /// The single pass.
 pub fn pass(plan: &[u8], answers: &[u8], marks: &mut [u8]) -> u32 {
-    // SAFETY: as for `guard`.
+    // SAFETY: as for `rewrite`.
     unsafe {
         raw::vulcedar_pass(
             plan.as_ptr(),
@@ -48,7 +54,7 @@ pub fn pass(plan: &[u8], answers: &[u8], marks: &mut [u8]) -> u32 {
 /// A step of a rehearsal: an event if the site is 255, else a message to
 /// that site.
 pub fn simulate(plan: &[u8], code: u32, node: u32, site: u32, state: &mut [u8]) -> u32 {
-    // SAFETY: as for `guard`.
+    // SAFETY: as for `rewrite`.
     unsafe {
         raw::vulcedar_simulate(plan.as_ptr(), plan.len(), code, node, site, state.as_mut_ptr(), state.len())
     }
@@ -56,7 +62,7 @@ pub fn simulate(plan: &[u8], code: u32, node: u32, site: u32, state: &mut [u8]) 
 
 /// The end record of a rehearsal's state.
 pub fn record(plan: &[u8], state: &[u8], marks: &mut [u8], classes: &mut [u8]) -> u32 {
-    // SAFETY: as for `guard`.
+    // SAFETY: as for `rewrite`.
     unsafe {
         raw::vulcedar_record(
             plan.as_ptr(),
@@ -73,7 +79,7 @@ pub fn record(plan: &[u8], state: &[u8], marks: &mut [u8], classes: &mut [u8]) -
 
 /// The central rule; the value is 1 if the event was allowed.
 pub fn central(plan: &[u8], code: u32, node: u32, marks: &mut [u8], notes: &mut [u8]) -> u32 {
-    // SAFETY: as for `guard`.
+    // SAFETY: as for `rewrite`.
     unsafe {
         raw::vulcedar_central(
             plan.as_ptr(),

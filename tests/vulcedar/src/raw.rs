@@ -3,6 +3,8 @@
 unsafe extern "C" {
     pub fn vulcedar_check(plan: *const u8, plan_length: usize) -> u32;
 
+    pub fn vulcedar_rewrite(plan: *const u8, plan_length: usize, out: *mut u8, out_length: usize) -> u32;
+
     pub fn vulcedar_guard(
         plan: *const u8,
         plan_length: usize,

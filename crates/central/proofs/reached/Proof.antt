@@ -2,7 +2,7 @@
 use mathlib.Core.Path.{sym, _∙_}
 use native.Mathlib.Omega.{arith}
 use Rattle.central.proofs.Tests.{past, past-kinds}
-use Rattle.central.proofs.StartLaws.{reached-serial, reached-contingency, reached-free, reached-first, reached-second, reached-other}
+use Rattle.central.proofs.StartLaws.{reached-serial, reached-contingency, reached-free, reached-first, reached-second, reached-waiting, reached-other}
 use borrow.Author.Needs.{needs}
 use Rattle.central.proofs.reached.Statement.{statement}
 use Rattle.central.proofs.reached.Tie as tie
@@ -38,13 +38,18 @@ returns-4 : tie.Need-returns-4
 returns-4 c = rw (c .answer2 .ensures) (reached-second _ _ _ _ _ _ (c .before .before .before .before .kind .ensures) (c .before .before .before .before .before .before .before .before .pre) (c .before .before .before .match .keys3) (sym (c .before .before .all-marked3 .ensures) ∙ c .before .if1 .left))
 
 returns-5 : tie.Need-returns-5
-returns-5 c = reached-free _ _ _ _ _ _ (c .before .before .before .kind .ensures) (c .before .before .before .before .before .before .before .pre) (omega arith) (omega arith)
+returns-5 c = reached-waiting _ _ _ _ _ _ (c .before .kind .ensures) (c .before .before .before .before .before .pre) (c .match .keys4)
 
 returns-6 : tie.Need-returns-6
-returns-6 c = reached-other _ _ _ _ _ _ (c .before .before .kind .ensures) (c .before .before .before .before .before .before .pre) (λ m n. omega arith)
+returns-6 c = reached-free _ _ _ _ _ _ (c .before .before .before .kind .ensures) (c .before .before .before .before .before .before .before .pre) (omega arith) (omega arith)
 
 returns-7 : tie.Need-returns-7
-returns-7 c = reached-other _ _ _ _ _ _ (c .before .before .before .kind .ensures) (c .before .before .before .before .before .before .before .pre) (past-kinds _ (past 6 _ (past 5 _ (c .if3 .left) (c .before .before .match .rest .0 .1)) (c .before .before .match .rest .1)))
+returns-7 c = reached-other _ _ _ _ _ _ (c .before .before .kind .ensures) (c .before .before .before .before .before .before .pre) (λ m n. omega arith)
+
+returns-8 : tie.Need-returns-8
+returns-8 c =
+    let r = c .before .before .match .rest in
+    reached-other _ _ _ _ _ _ (c .before .before .before .kind .ensures) (c .before .before .before .before .before .before .before .pre) (past-kinds _ (past 7 _ (past 6 _ (past 5 _ (c .if3 .left) (r .0 .0 .1)) (r .0 .1)) (r .1)))
 
 pub reached-spec : {M : Type 1} → statement M
 reached-spec =
@@ -62,4 +67,5 @@ reached-spec =
     returns-4
     returns-5
     returns-6
-    returns-7)
+    returns-7
+    returns-8)

@@ -57,6 +57,22 @@ pub fn plan_of(nodes: usize) -> Vec<u8> {
     plan
 }
 
+/// All valid plans with so many nodes.
+pub fn plans(nodes: usize) -> Vec<Vec<u8>> {
+    let mut open = vec![Vec::new()];
+    for number in 0..nodes {
+        let parents = if number == 0 { vec![0xff] } else { (0..number as u8).collect() };
+        open = open.iter().flat_map(|plan| longer(plan, &parents)).collect();
+    }
+    open.retain(|plan| exported::check(plan) == 0);
+    open
+}
+
+fn longer(plan: &[u8], parents: &[u8]) -> Vec<Vec<u8>> {
+    let nodes = (1..=8).flat_map(|kind| parents.iter().map(move |&parent| [kind, parent]));
+    nodes.map(|node| [plan, &node].concat()).collect()
+}
+
 /// The guard as bytes; panics if it is refused.
 pub fn guard_bytes(plan: &[u8], code: u32, node: u32) -> Vec<u8> {
     let mut buffer = [0xee; 300];

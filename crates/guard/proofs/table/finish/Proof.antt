@@ -1,6 +1,6 @@
 -- Each arm is its row, as the laws of rows say. Assumes nothing.
 use native.Mathlib.Omega.{arith}
-use Rattle.guard.proofs.RowLaws.{finish-serial, finish-and, finish-or, finish-xor, finish-any, finish-task}
+use Rattle.guard.proofs.RowLaws.{finish-serial, finish-and, finish-or, finish-xor, finish-any, finish-waiting, finish-task}
 use Rattle.guard.proofs.table.finish.Statement.{statement}
 use Rattle.guard.proofs.table.finish.Tie as tie
 
@@ -17,13 +17,16 @@ returns-4 : tie.Need-returns-4
 returns-4 c = λ cs is. finish-xor _ _ cs (c .match .keys4)
 
 returns-5 : tie.Need-returns-5
-returns-5 c = λ cs is. finish-any _ _ cs (omega arith) (omega arith)
+returns-5 c = λ cs is. finish-waiting _ _ cs (c .match .keys5)
 
 returns-6 : tie.Need-returns-6
-returns-6 c = λ cs is. finish-task _ _ cs (λ a b. omega arith)
+returns-6 c = λ cs is. finish-any _ _ cs (omega arith) (omega arith)
 
 returns-7 : tie.Need-returns-7
 returns-7 c = λ cs is. finish-task _ _ cs (λ a b. omega arith)
+
+returns-8 : tie.Need-returns-8
+returns-8 c = λ cs is. finish-task _ _ cs (λ a b. omega arith)
 
 pub finish-spec : {M : Type 1} → statement M
 finish-spec =
@@ -35,4 +38,5 @@ finish-spec =
     returns-4
     returns-5
     returns-6
-    returns-7)
+    returns-7
+    returns-8)
