@@ -18,7 +18,7 @@ fn ruled(r: central::Ruling) -> usize {
 }
 
 // Check, guard, step, hear, event or message, central rule, pass, record, list of steps, rewriting, text.
-pub fn call(
+pub(crate) fn call(
     letter: u8,
     plan: &[u8],
     code: u32,

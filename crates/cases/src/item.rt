@@ -22,7 +22,7 @@ fn pair(line: &[u8], at: usize) -> u8
 }
 
 // Four digits.
-pub fn wide(line: &[u8], at: usize) -> u32
+pub(crate) fn wide(line: &[u8], at: usize) -> u32
     requires { ⌜ at ≤ 100 ⌝ }
     ensures { λ r. ⌜ r < 65536 ⌝ }
 {
@@ -43,7 +43,7 @@ fn given(line: &[u8]) -> usize {
 }
 
 // How many bytes it stands for, and no more than the list has.
-pub fn size(line: &[u8], list: &[u8]) -> usize
+pub(crate) fn size(line: &[u8], list: &[u8]) -> usize
     ensures { λ r. ⌜ Counts r (now (list .entry)) ⌝ }
 {
     let mut n = wide(line, 2) as usize;
@@ -86,7 +86,7 @@ fn byte_of(line: &[u8], i: usize) -> u8
     read(line, n - unit + turn)
 }
 
-pub fn fill(line: &[u8], list: &mut [u8])
+pub(crate) fn fill(line: &[u8], list: &mut [u8])
     requires { ⌜ length (now list) ≤ 65536 ⌝ }
 {
     let mut i = 0;
@@ -97,7 +97,7 @@ pub fn fill(line: &[u8], list: &mut [u8])
 }
 
 // How many bytes there are up to the last one that is not the line's.
-pub fn changed(line: &[u8], list: &[u8]) -> usize
+pub(crate) fn changed(line: &[u8], list: &[u8]) -> usize
     requires { ⌜ length (now list) ≤ 65536 ⌝ }
 {
     let mut last = 0;

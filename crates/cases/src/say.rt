@@ -5,7 +5,7 @@ ghost use Prim.Native.Nat.{_≤_};
 ghost use lib.ListN.{length};
 
 // A line's words from a column on.
-pub fn words(line: &[u8], from: usize) {
+pub(crate) fn words(line: &[u8], from: usize) {
     let end = bytes::scan::find(line, 0, line.len(), b'\n');
     if from <= end {
         io::write_all(STDOUT_FILENO, &line[from..end]);
@@ -13,7 +13,7 @@ pub fn words(line: &[u8], from: usize) {
 }
 
 // The number answered, and the value if there is one.
-pub fn answer(n: usize) {
+pub(crate) fn answer(n: usize) {
     io::write_all(STDOUT_FILENO, b" ");
     io::print_decimal(STDOUT_FILENO, (n % 65536) as u64);
     if 65536 <= n {
@@ -43,7 +43,7 @@ fn bytes(text: bool, list: &[u8], n: usize) {
 }
 
 // Whether the lent bytes are as their lines say, or what they are now.
-pub fn lent(as_a: &[u8], a: &[u8], as_b: &[u8], b: &[u8])
+pub(crate) fn lent(as_a: &[u8], a: &[u8], as_b: &[u8], b: &[u8])
     requires { ⌜ length (now a) ≤ 65536 ⌝ }
     requires { ⌜ length (now b) ≤ 65536 ⌝ }
 {
