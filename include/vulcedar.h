@@ -74,7 +74,7 @@ extern "C" {
 /* A guard never has more bytes than this. */
 #define VULCEDAR_GUARD_MOST 290u
 
-/* Checks a plan: 0, or 1 to 6. One walk over the nodes, so that an editor can check at every key. */
+/* Checks a plan: 0, or 1 to 6. Its time grows with the number of nodes and no faster, so that an editor can check at every key. */
 uint32_t vulcedar_check(const uint8_t *plan, size_t plan_len);
 
 /*
