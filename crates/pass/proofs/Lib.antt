@@ -1,6 +1,5 @@
 -- Laws that the proofs here cite.
 pub mod TableLaws
-pub mod AboveLaws
 pub mod LinkLaws
 pub mod SettleLaws
 pub mod PassLaws

@@ -1,21 +1,17 @@
--- The tables of specs/Pass.antt and specs/Record.antt by the kind's byte. Assumes nothing.
+-- The tables of specs/Pass.antt by the kind's byte. Assumes nothing.
 use mathlib.Core.Path.{_≡_, refl, sym, _∙_, ap}
 use mathlib.Core.Bool.{Bool, true, false, cond, _&&_, _||_, not, and-false, true≢false}
-use mathlib.Core.List.{List}
-use Prim.Native.Nat.{ℕ, _+_, _*_, _≤_, _<_}
+use Prim.Native.Nat.{ℕ, _+_, _≤_, _<_}
 use native.Mathlib.Numerals.{add-one}
 use native.Mathlib.Omega.{arith}
-use lib.Dec.{eqb, leb}
-use lib.ListN.{length, getD}
+use lib.Dec.{eqb}
 use borrow.Author.Tests.{eq-eqb, ne-eqb, eqb-true, eqb-false}
 use Rattle.lists.proofs.Logic.{cases, decided}
-use Rattle.lists.specs.Seq.{upFrom, allBelow}
-use Rattle.lists.proofs.Below.{below-stop}
+use Rattle.lists.specs.Seq.{upFrom}
 use Rattle.lists.proofs.Between.{between}
-use Rattle.plan.specs.Plan.{Kind, task, serial, and, or, xor, contingency, conditional, waiting, kindNumber, isKind, kindOf, kindByte, kind}
+use Rattle.plan.specs.Plan.{Kind, task, serial, and, or, xor, contingency, conditional, waiting, kindNumber, isKind, kindOf}
 use Rattle.plan.proofs.KindLaws.{is-kind, kind-other}
 use Rattle.pass.specs.Pass.{Outcome, works, breaks, fault, Tally, goesBy, goes, goodMark, note, childMark, oneOrTwo, badAnswer, badPick, closes, ending}
-use Rattle.pass.specs.Record.{frameOk, tableOk, tableNumber, classOf, countsAs, class}
 
 module _ (k a : ℕ) where
   pub answer-block : 2 ≤ k → k < 7 → 0 ≡ badAnswer (kindOf k) a
@@ -151,44 +147,3 @@ module _ (a : ℕ) (t : Tally) (o : Outcome) (e : o ≡ works) where
 
   pub mark-plain : (k : ℕ) → (k ≡ 5 → ⊥) → 3 ≡ childMark (kindOf k) a t o
   mark-plain k n = sym (mark-works k ∙ rw (ne-eqb k 5 n))
-
--- the class of a block and of a task, by its kind's byte k
-module _ (p tab m : List ℕ) (v k : ℕ) (e : k ≡ kindByte p v) where
-  pub class-block : 2 ≤ k → k < 9 → 0 ≡ class p tab m v
-  unfolding class kind isKind kindNumber kindOf upFrom
-  class-block l h = rw (← e) (between (λ k. 0) (λ k. cond (isKind task (kindOf k)) (classOf tab (countsAs p m v)) 0) 2 7 refl k l h)
-
-  -- x is the mark as which it counts, y the class that was read
-  pub class-task : (2 ≤ k → k ≤ 8 → ⊥) → (x j y : ℕ) → x ≡ countsAs p m v → j ≡ x → y ≡ getD tab (2 * j + 1) 0 → y ≡ class p tab m v
-  unfolding class classOf kind isKind kindNumber
-  class-task n x j y g h q = rw (← e, kind-other k n, q, h, g)
-
--- a table's tests, in their order
-module _ (tab : List ℕ) where
-  pub frame-other : (i x j : ℕ) → x ≡ getD tab (2 * i) 0 → j ≡ x → (j ≡ i → ⊥) → false ≡ frameOk tab i
-  unfolding frameOk
-  frame-other i x j e f n = rw (ne-eqb (getD tab (2 * i) 0) i (λ z. n (f ∙ e ∙ z)))
-
-  pub frame-class : (i x j y : ℕ) → x ≡ getD tab (2 * i) 0 → j ≡ x → j ≡ i → y ≡ getD tab (2 * i + 1) 0 → leb y 3 ≡ frameOk tab i
-  unfolding frameOk
-  frame-class i x j y e f g h = rw (eq-eqb (getD tab (2 * i) 0) i (sym (f ∙ e) ∙ g), h)
-
-  refused : tableOk tab ≡ false → 21 ≡ tableNumber tab
-  unfolding tableNumber
-  refused h = rw h
-
-  pub table-long : (length tab ≡ 12 → ⊥) → 21 ≡ tableNumber tab
-  unfolding tableOk
-  table-long n = refused (rw (ne-eqb (length tab) 12 n))
-
-  pub table-first : (x : ℕ) → x ≡ getD tab 1 0 → (x ≡ 0 → ⊥) → 21 ≡ tableNumber tab
-  unfolding tableOk
-  table-first x e n = refused (rw (ne-eqb (getD tab 1 0) 0 (λ z. n (e ∙ z)), and-false))
-
-  pub table-frame : (i : ℕ) → i < 6 → frameOk tab i ≡ false → 21 ≡ tableNumber tab
-  unfolding tableOk
-  table-frame i l h = refused (rw (below-stop (frameOk tab) 6 i l h, and-false))
-
-  pub table-right : length tab ≡ 12 → (x : ℕ) → x ≡ getD tab 1 0 → x ≡ 0 → allBelow (frameOk tab) 6 ≡ true → 0 ≡ tableNumber tab
-  unfolding tableOk tableNumber
-  table-right l x e z h = rw (eq-eqb (length tab) 12 l, eq-eqb (getD tab 1 0) 0 (sym e ∙ z), h)

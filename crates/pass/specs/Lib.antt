@@ -1,4 +1,3 @@
 -- Letters: p a plan, a an answer or the answers, v a node, c a child, k a kind, t a tally, w a walk, m and n marks, o an outcome.
 pub mod Pass
 pub mod Values
-pub mod Record

@@ -12,7 +12,7 @@ use Rattle.guard.specs.Bytes.{encEvents, encClauses, encode}
 use Rattle.central.specs.Mark.{markNumber, isMark}
 use Rattle.central.specs.Central.{fresh, markAfter, answerAfter, pickedAfter, after, reachedBy, mayStart, finishesBy, failsBy, allowedBy, allowed, runFrom, isRun}
 use Rattle.pass.specs.Pass.{goesBy, goes, goodMark, skip, note, childMark, noted, meetBy, meet, walk, nothing, unwalked, oneOrTwo, badAnswer, badPick, closes, ending, endOf, close, settleIf, settleBy, settle, numberOf, rootMark, passOf, pass}
-use Rattle.pass.specs.Record.{commonTable, classOf, aboveWithin, nodesAbove, fell, countsAbove, countsAs, class, Record, recordOf}
+use Rattle.retention.specs.Record.{commonTable, classOf, aboveWithin, nodesAbove, fell, countsAbove, countsAs, class, Record, recordOf}
 
 pub data Question : Type 0 where
   guard-bytes : Event → Question

@@ -10,7 +10,7 @@ use Rattle.lists.specs.Put.{Put}
 use Rattle.lists.proofs.Table.{up-length}
 use Rattle.lists.proofs.Each.{EachLeft, each-length, each-turn, each-done, up-at}
 use Rattle.plan.specs.Plan.{size, kindByte}
-use Rattle.pass.specs.Record.{Record}
+use Rattle.retention.specs.Record.{Record}
 use Rattle.text.specs.Calls.{lineInto, printing}
 use Rattle.text.proofs.PrintLaws.{hex-length, put-by}
 use Rattle.script.specs.Script.{numberLine, nodeLine, numberLines, nodeLines}

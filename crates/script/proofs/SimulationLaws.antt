@@ -15,7 +15,7 @@ use Rattle.plan.specs.Plan.{size}
 use Rattle.plan.specs.Check.{checkNumber}
 use Rattle.plan.proofs.Main.{check-exact}
 use Rattle.event.specs.Site.{own}
-use Rattle.pass.specs.Record.{tableNumber, recordOf}
+use Rattle.retention.specs.Record.{tableNumber, recordOf}
 use Rattle.simulation.specs.Simulation.{Step, simulate, stateFits, zeros, replay, numbersFrom, endMarks}
 use Rattle.script.specs.Script.{Zeros}
 use Rattle.lists.proofs.Parts.{part-length, Back}

@@ -9,7 +9,7 @@ use Rattle.lists.specs.Seq.{upFrom}
 use Rattle.plan.specs.Plan.{size, kindByte}
 use Rattle.plan.specs.Check.{checkNumber}
 use Rattle.event.specs.Site.{own}
-use Rattle.pass.specs.Record.{commonTable, tableNumber, Record, recordOf}
+use Rattle.retention.specs.Record.{commonTable, tableNumber, Record, recordOf}
 use Rattle.simulation.specs.Simulation.{Step, zeros, replay, numbersFrom, endMarks}
 use Rattle.simulation.specs.Run.{stepsOf}
 use Rattle.text.specs.Hex.{hexLine}

@@ -7,7 +7,7 @@ ghost use Rattle.lists.specs.Put.{Put};
 ghost use Rattle.plan.specs.Plan.{size};
 ghost use Rattle.plan.specs.Check.{checkNumber};
 ghost use Rattle.event.specs.Site.{own};
-ghost use Rattle.pass.specs.Record.{tableNumber, recordOf};
+ghost use Rattle.retention.specs.Record.{tableNumber, recordOf};
 ghost use Rattle.simulation.specs.Simulation.{endMarks};
 ghost use Rattle.simulation.specs.Run.{stepsOf};
 ghost use Rattle.text.specs.Calls.{printing};
@@ -139,12 +139,12 @@ fn table_number(head: usize, tab: &[u8]) -> u8
     ensures { λ r. ⌜ r ≡ readNumber head (now (tab .entry)) ⌝ }
 {
     if head == 0 {
-        return pass::check_table(tab);
+        return retention::check_table(tab);
     }
     if head != 33 {
         return 21;
     }
-    pass::check_table(tab)
+    retention::check_table(tab)
 }
 
 // Prints what a text gives at the front of `out` and answers its length; where `out` is shorter than 16,384 bytes, leaves it and answers 0.
@@ -154,7 +154,7 @@ pub fn rehearse(text: &[u8], out: &mut [u8]) -> usize
     if out.len() < 16384 {
         return 0;
     }
-    let mut tab = pass::common_table();
+    let mut tab = retention::common_table();
     let mut plan = plan_buffer();
     let mut steps = step_buffer();
     let counts = text::read(text, &mut tab, &mut plan, &mut steps);

@@ -17,7 +17,7 @@ use Rattle.guard.specs.Guard.{guard, holds, barred}
 use Rattle.central.specs.Mark.{markNumber}
 use Rattle.central.specs.Central.{fresh, allowed, isRun, reaches}
 use Rattle.pass.specs.Pass.{pass}
-use Rattle.pass.specs.Record.{recordOf}
+use Rattle.retention.specs.Record.{recordOf}
 use Rattle.site.specs.Row.{heard}
 use Rattle.site.specs.Verdict.{verdictNumber}
 use Rattle.site.specs.Step.{stepOf}

@@ -15,7 +15,7 @@ use Rattle.plan.specs.Check.{checkNumber, Accepted}
 use Rattle.plan.proofs.Main.{check-exact}
 use Rattle.event.specs.Site.{own}
 use Rattle.central.specs.Mark.{markNumber}
-use Rattle.pass.specs.Record.{tableNumber, class, recordOf}
+use Rattle.retention.specs.Record.{tableNumber, class, recordOf}
 use Rattle.simulation.specs.Simulation.{stateFits, markAt, endMarks}
 use Rattle.simulation.specs.Run.{markByte, fitNumber, recorded, recordNumber, recordByNumber, recordByInto, runNumber}
 use Rattle.simulation.proofs.CodeLaws.{mark-byte}

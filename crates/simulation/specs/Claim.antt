@@ -13,7 +13,7 @@ use Rattle.event.specs.Site.{Layout, own, Housed, siteOf}
 use Rattle.guard.specs.Guard.{guard, holds, barred}
 use Rattle.central.specs.Central.{Central, fresh, allowed, isRun, reaches}
 use Rattle.pass.specs.Pass.{pass}
-use Rattle.pass.specs.Record.{recordOf}
+use Rattle.retention.specs.Record.{recordOf}
 use Rattle.site.specs.Row.{heard}
 use Rattle.site.specs.Verdict.{verdictNumber}
 use Rattle.site.specs.Step.{stepOf}

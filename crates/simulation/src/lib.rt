@@ -9,7 +9,7 @@ ghost use lib.ListN.{length, getD};
 ghost use Rattle.lists.specs.Seq.{table};
 ghost use Rattle.plan.specs.Plan.{size};
 ghost use Rattle.event.specs.Site.{own};
-ghost use Rattle.pass.specs.Record.{class};
+ghost use Rattle.retention.specs.Record.{class};
 ghost use Rattle.simulation.specs.Simulation.{reply, happen, tell, replayFrom, numbersFrom};
 ghost use Rattle.simulation.specs.Run.{Placed, markByte, simulateOf, fitNumber, recorded, recordByInto, recordInto, stepsOf, ran, runOf};
 
@@ -174,7 +174,7 @@ fn write_classes(plan: &[u8], tab: &[u8], marks: &[u8], classes: &mut [u8])
     let n = plan::node_count(plan);
     let mut v = 0;
     while v < n {
-        classes[v] = pass::class(plan, tab, marks, v as u8);
+        classes[v] = retention::class(plan, tab, marks, v as u8);
         v += 1;
     }
 }
@@ -195,7 +195,7 @@ fn record_fits(n: usize, state: usize, marks: usize, classes: usize) -> bool
 pub fn record_by(plan: &[u8], tab: &[u8], state: &[u8], marks: &mut [u8], classes: &mut [u8]) -> u8
     ensures { λ r. ⌜ recordByInto (now (plan .entry)) (now (tab .entry)) (now (state .entry)) (now (marks .entry)) (now (classes .entry)) ≡ recorded r (now (marks .exit)) (now (classes .exit)) ⌝ }
 {
-    let bad = pass::check_table(tab);
+    let bad = retention::check_table(tab);
     if bad != 0 {
         return bad;
     }
@@ -216,7 +216,7 @@ pub fn record_by(plan: &[u8], tab: &[u8], state: &[u8], marks: &mut [u8], classe
 pub fn record(plan: &[u8], state: &[u8], marks: &mut [u8], classes: &mut [u8]) -> u8
     ensures { λ r. ⌜ recordInto (now (plan .entry)) (now (state .entry)) (now (marks .entry)) (now (classes .entry)) ≡ recorded r (now (marks .exit)) (now (classes .exit)) ⌝ }
 {
-    let tab = pass::common_table();
+    let tab = retention::common_table();
     record_by(plan, &tab, state, marks, classes)
 }
 

@@ -1,6 +1,6 @@
 -- The table's test and the others, then the marks and the classes by them. Assumes nothing.
 use mathlib.Core.Path.{_≡_, sym, _∙_}
-use Rattle.pass.specs.Record.{tableNumber}
+use Rattle.retention.specs.Record.{tableNumber}
 use Rattle.simulation.specs.Run.{recordNumber}
 use Rattle.simulation.proofs.RecordLaws.{record-told, table-refused, record-refused, record-lengths, record-done}
 use Prim.Native.Nat.{ℕ, _*_, _≤_}

@@ -5,7 +5,7 @@ use borrow.Author.Needs.{needs}
 use Prim.Native.Nat.{_-_}
 use Rattle.lists.proofs.Filling.{Filling, fill-none, fill-turn, fill-done}
 use Rattle.plan.specs.Plan.{size}
-use Rattle.pass.specs.Record.{class}
+use Rattle.retention.specs.Record.{class}
 use Rattle.simulation.proofs.write_classes.Statement.{statement}
 use Rattle.simulation.proofs.write_classes.Tie as tie
 

@@ -2,9 +2,9 @@
 use mathlib.Core.Logic.{⊎-elim}
 use native.Mathlib.Omega.{arith}
 use borrow.Author.Needs.{needs}
-use Rattle.pass.proofs.AboveLaws.{Above, above-all, above-root, above-out, above-fell, above-on, above-open, above-as}
-use Rattle.pass.proofs.counts_above.Statement.{statement}
-use Rattle.pass.proofs.counts_above.Tie as tie
+use Rattle.retention.proofs.AboveLaws.{Above, above-all, above-root, above-out, above-fell, above-on, above-open, above-as}
+use Rattle.retention.proofs.counts_above.Statement.{statement}
+use Rattle.retention.proofs.counts_above.Tie as tie
 
 abbrev Inv-loop : tie.InvT-loop
 Inv-loop plan marks v least₀ u₀ left₀ least u left = Above plan marks v least u left

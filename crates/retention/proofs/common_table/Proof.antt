@@ -1,8 +1,8 @@
 -- The definition's bytes. Assumes nothing.
 use mathlib.Core.Path.{refl}
-use Rattle.pass.specs.Record.{commonTable}
-use Rattle.pass.proofs.common_table.Statement.{statement}
-use Rattle.pass.proofs.common_table.Tie as tie
+use Rattle.retention.specs.Record.{commonTable}
+use Rattle.retention.proofs.common_table.Statement.{statement}
+use Rattle.retention.proofs.common_table.Tie as tie
 
 returns : tie.Need-returns
 unfolding commonTable

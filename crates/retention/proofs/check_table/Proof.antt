@@ -7,10 +7,10 @@ use borrow.Author.Needs.{needs}
 use borrow.Author.Tests.{not-true, not-false}
 use Rattle.lists.specs.Seq.{allBelow}
 use Rattle.lists.proofs.Below.{below-more, below-end}
-use Rattle.pass.specs.Record.{frameOk}
-use Rattle.pass.proofs.TableLaws.{table-long, table-first, table-frame, table-right}
-use Rattle.pass.proofs.check_table.Statement.{statement}
-use Rattle.pass.proofs.check_table.Tie as tie
+use Rattle.retention.specs.Record.{frameOk}
+use Rattle.retention.proofs.TableLaws.{table-long, table-first, table-frame, table-right}
+use Rattle.retention.proofs.check_table.Statement.{statement}
+use Rattle.retention.proofs.check_table.Tie as tie
 
 abbrev Inv-loop : tie.InvT-loop
 Inv-loop table i₀ i = (i ≤ 6) × (allBelow (frameOk table) i ≡ true)

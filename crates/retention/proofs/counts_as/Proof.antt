@@ -1,9 +1,9 @@
 -- A committed node counts by those above it, any other as its mark. Assumes nothing.
 use mathlib.Core.Path.{_∙_}
 use borrow.Author.Needs.{needs}
-use Rattle.pass.proofs.AboveLaws.{counts-plain, counts-committed}
-use Rattle.pass.proofs.counts_as.Statement.{statement}
-use Rattle.pass.proofs.counts_as.Tie as tie
+use Rattle.retention.proofs.AboveLaws.{counts-plain, counts-committed}
+use Rattle.retention.proofs.counts_as.Statement.{statement}
+use Rattle.retention.proofs.counts_as.Tie as tie
 
 wide-requires : tie.Need-wide-requires
 wide-requires c κs = search needs

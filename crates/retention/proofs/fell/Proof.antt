@@ -1,8 +1,8 @@
 -- The definition, test by test. Assumes nothing.
 use borrow.Author.Tests.{eq-eqb, ne-eqb}
-use Rattle.pass.specs.Record.{fell}
-use Rattle.pass.proofs.fell.Statement.{statement}
-use Rattle.pass.proofs.fell.Tie as tie
+use Rattle.retention.specs.Record.{fell}
+use Rattle.retention.proofs.fell.Statement.{statement}
+use Rattle.retention.proofs.fell.Tie as tie
 
 returns : tie.Need-returns
 unfolding fell

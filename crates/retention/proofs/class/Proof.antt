@@ -2,9 +2,9 @@
 use mathlib.Core.Logic.{⊎-elim}
 use native.Mathlib.Omega.{arith}
 use borrow.Author.Needs.{needs}
-use Rattle.pass.proofs.TableLaws.{class-block, class-task}
-use Rattle.pass.proofs.class.Statement.{statement}
-use Rattle.pass.proofs.class.Tie as tie
+use Rattle.retention.proofs.TableLaws.{class-block, class-task}
+use Rattle.retention.proofs.class.Statement.{statement}
+use Rattle.retention.proofs.class.Tie as tie
 
 kind-requires : tie.Need-kind-requires
 kind-requires c κs = search needs

@@ -1,8 +1,8 @@
 -- The mark, then the class. Assumes nothing.
 use borrow.Author.Needs.{needs}
-use Rattle.pass.proofs.TableLaws.{frame-other, frame-class}
-use Rattle.pass.proofs.frame_ok.Statement.{statement}
-use Rattle.pass.proofs.frame_ok.Tie as tie
+use Rattle.retention.proofs.TableLaws.{frame-other, frame-class}
+use Rattle.retention.proofs.frame_ok.Statement.{statement}
+use Rattle.retention.proofs.frame_ok.Tie as tie
 
 mul-byte-at : tie.Need-mul-byte-at
 mul-byte-at c = search needs

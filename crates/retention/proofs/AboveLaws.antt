@@ -9,7 +9,7 @@ use lib.Dec.{eqb}
 use lib.ListN.{getD}
 use Rattle.lists.specs.Seq.{all, any}
 use Rattle.plan.specs.Plan.{parent}
-use Rattle.pass.specs.Record.{aboveWithin, nodesAbove, fell, countsAbove, countsAs}
+use Rattle.retention.specs.Record.{aboveWithin, nodesAbove, fell, countsAbove, countsAs}
 
 -- what the nodes us say where those before them left w
 unfoldable pub saying : List ℕ → ℕ → List ℕ → ℕ

@@ -1,0 +1,4 @@
+-- Laws that the proofs here cite.
+pub mod TableLaws
+pub mod AboveLaws
+pub mod Cases
