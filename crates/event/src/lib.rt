@@ -84,7 +84,7 @@ pub fn with_bit(b: u8, code: u8) -> u8
 pub fn validate(plan: &[u8], fits: bool, sited: bool, code: u32, node: u32) -> u8
     ensures { λ r. ⌜ r ≡ invalid (now (plan .entry)) fits sited code node ⌝ }
 {
-    let n = plan::check(plan);
+    let n = checker::check(plan);
     if n != 0 {
         return n;
     }

@@ -285,7 +285,7 @@ fn settle_all(plan: &[u8], answers: &[u8], marks: &mut [u8]) -> u8
 pub fn pass(plan: &[u8], answers: &[u8], marks: &mut [u8]) -> u8
     ensures { λ r. ⌜ passInto (now (plan .entry)) (now (answers .entry)) (now (marks .entry)) ≡ passed r (now (marks .exit)) ⌝ }
 {
-    let bad = plan::check(plan);
+    let bad = checker::check(plan);
     if bad != 0 {
         return bad;
     }

@@ -29,7 +29,7 @@ fn write(plan: &[u8], out: &mut [u8])
 pub fn rewrite(plan: &[u8], out: &mut [u8]) -> u8
     ensures { λ r. ⌜ rewriteOf (now (plan .entry)) (now (out .entry)) ≡ rewrote r (now (out .exit)) ⌝ }
 {
-    let bad = plan::check(plan);
+    let bad = checker::check(plan);
     if bad != 0 {
         return bad;
     }

@@ -159,7 +159,7 @@ fn write_marks(n: usize, state: &[u8], marks: &mut [u8])
 fn fit(plan: &[u8], fits: bool) -> u8
     ensures { λ r. ⌜ r ≡ fitNumber (now (plan .entry)) fits ⌝ }
 {
-    let number = plan::check(plan);
+    let number = checker::check(plan);
     if number != 0 {
         return number;
     }
