@@ -7,39 +7,53 @@ use lib.Dec.{eqb}
 use lib.ListN.{length}
 use borrow.Author.Tests.{eqb-true, eq-eqb, ne-eqb}
 use Rattle.lists.specs.Seq.{table}
+use Rattle.lists.specs.Member.{Either, left, right}
+use Rattle.lists.proofs.Logic.{decided}
 use Rattle.plan.specs.Plan.{size, depth}
-use Rattle.plan.specs.Check.{checkNumber}
-use Rattle.checker.specs.Depths.{checked, depthsOf}
+use Rattle.plan.specs.Check.{checkNumber, fitNumber, Ordered}
+use Rattle.plan.proofs.AcceptedLaws.{accepted-ordered}
+use Rattle.plan.proofs.FitLaws.{fit-right}
+use Rattle.plan.proofs.Main.{fit-exact}
+use Rattle.checker.specs.Depths.{checked, depthsNumber, depthsOf}
 
--- k is what the check answered, n the node count
-module _ (p d : List ℕ) (k : ℕ) (told : k ≡ checkNumber p) where
-  pub depths-check : (k ≡ 0 → ⊥) → depthsOf p d ≡ checked d k
+-- k is what `fit` answered, n the node count
+module _ (p d : List ℕ) (k n : ℕ) (count : n ≡ size p) (told : k ≡ fitNumber p (eqb (length d) n)) where
+  number-told : depthsNumber p d ≡ k
+  unfolding depthsNumber
+  number-told = sym (told ∙ rw count)
+
+  pub depths-refused : (k ≡ 0 → ⊥) → depthsOf p d ≡ checked d k
   unfolding depthsOf
-  depths-check h = rw (← told, ne-eqb k 0 h)
+  depths-refused h = rw (number-told, ne-eqb k 0 h)
 
-  module _ (passes : k ≡ 0) (n : ℕ) (e : n ≡ size p) where
-    pub depths-length : (length d ≡ n → ⊥) → depthsOf p d ≡ checked d 7
-    unfolding depthsOf
-    depths-length h = rw (← told, passes, ne-eqb (length d) (size p) (λ q. h (q ∙ sym e)))
+  module _ (none : k ≡ 0) where
+    pub depths-ready : Ordered p × (length d ≡ size p)
+    depths-ready =
+        let a = fit-exact p _ .none .0 (sym told ∙ none) in
+        (accepted-ordered p (a .0), eqb-true (length d) n (a .1) ∙ count)
 
-    pub depths-all : length d ≡ n → (d′ : List ℕ) → d′ ≡ table (depth p) (size p) → depthsOf p d ≡ checked d′ 0
+    pub depths-done : (d′ : List ℕ) → d′ ≡ table (depth p) (size p) → depthsOf p d ≡ checked d′ 0
     unfolding depthsOf
-    depths-all h d′ f = rw (← told, passes, eq-eqb (length d) (size p) (h ∙ e), f)
+    depths-done d′ f = rw (number-told, none, f)
+
+-- the tests in one line
+fit-is : (p : List ℕ) (b long : Bool) → eqb (checkNumber p) 0 ≡ b → fitNumber p long ≡ cond (eqb (checkNumber p) 0 && not long) 7 (checkNumber p)
+unfolding fitNumber
+fit-is p true true e = rw e (sym (eqb-true (checkNumber p) 0 e))
+fit-is p true false e = rw e
+fit-is p false long e = rw e
 
 module _ (p d : List ℕ) where
-  number-by : (b c : Bool) → eqb (checkNumber p) 0 ≡ b → eqb (length d) (size p) ≡ c →
-      depthsOf p d .number ≡ cond (eqb (checkNumber p) 0 && not (eqb (length d) (size p))) 7 (checkNumber p)
-  unfolding depthsOf
-  number-by true true e f = rw (e, f) (sym (eqb-true (checkNumber p) 0 e))
-  number-by true false e f = rw (e, f)
-  number-by false c e f = rw e
+  number-is : depthsOf p d .number ≡ fitNumber p (eqb (length d) (size p))
+  unfolding depthsOf depthsNumber
+  number-is = go (fitNumber p (eqb (length d) (size p))) (decided (eqb (fitNumber p (eqb (length d) (size p))) 0))
+    where
+      go : (n : ℕ) → Either (eqb n 0 ≡ true) (eqb n 0 ≡ false) → (cond (not (eqb n 0)) (checked d n) (checked (table (depth p) (size p)) 0)) .number ≡ n
+      go n (left e) = rw e (sym (eqb-true n 0 e))
+      go n (right e) = rw e
 
   pub number-same : depthsOf p d .number ≡ cond (eqb (checkNumber p) 0 && not (eqb (length d) (size p))) 7 (checkNumber p)
-  number-same = number-by (eqb (checkNumber p) 0) (eqb (length d) (size p)) refl refl
+  number-same = number-is ∙ fit-is p (eqb (checkNumber p) 0) (eqb (length d) (size p)) refl
 
   pub number-fits : length d ≡ size p → depthsOf p d .number ≡ checkNumber p
-  number-fits e = number-same ∙ go (eqb (checkNumber p) 0) (eqb (length d) (size p)) (eq-eqb (length d) (size p) e)
-    where
-      go : (b c : Bool) → c ≡ true → cond (b && not c) 7 (checkNumber p) ≡ checkNumber p
-      go true c f = rw f
-      go false c f = refl
+  number-fits e = number-is ∙ rw (eq-eqb (length d) (size p) e) (fit-right p)

@@ -7,7 +7,7 @@ use lib.Dec.{eqb}
 use lib.ListN.{length}
 use Rattle.lists.specs.Seq.{table}
 use Rattle.plan.specs.Plan.{size, depth}
-use Rattle.plan.specs.Check.{checkNumber}
+use Rattle.plan.specs.Check.{checkNumber, fitNumber}
 
 -- a number, 0 where the plan is accepted, and the lent bytes
 pub record Checked : Type 0 where
@@ -17,13 +17,16 @@ pub record Checked : Type 0 where
 abbrev pub checked : List ℕ → ℕ → Checked
 checked d n = record { depths = d; number = n }
 
+-- H7: the lent bytes are one a node
+unfoldable pub depthsNumber : List ℕ → List ℕ → ℕ
+depthsNumber p d = fitNumber p (eqb (length d) (size p))
+
 -- H19: a call with the bytes d lent: 1 to 6 of the plan, then 7 of the length (H7). A refused call leaves the bytes; any other leaves every
 -- node's depth (A6)
 unfoldable pub depthsOf : List ℕ → List ℕ → Checked
 depthsOf p d =
-    cond (not (eqb (checkNumber p) 0)) (checked d (checkNumber p))
-    (cond (not (eqb (length d) (size p))) (checked d 7)
-    (checked (table (depth p) (size p)) 0))
+    cond (not (eqb (depthsNumber p d) 0)) (checked d (depthsNumber p d))
+    (checked (table (depth p) (size p)) 0)
 
 -- CLAIM. Every plan gets the number that `check` gives it; only where that is 0, and the lent bytes are not one a node, it is 7.
 abbrev pub SameNumber : Type 0

@@ -5,7 +5,7 @@ ghost use Prim.Native.Nat.{_<_};
 ghost use lib.ListN.{length, replicate};
 ghost use Rattle.lists.specs.Seq.{table};
 ghost use Rattle.plan.specs.Plan.{kindOf, size, kindByte, parent, childCount, depth};
-ghost use Rattle.plan.specs.Check.{lengthOk, kindOk, parentOk, underBlock, fits, countOk, depthOk, atAll, checkNumber, Ordered};
+ghost use Rattle.plan.specs.Check.{lengthOk, kindOk, parentOk, underBlock, fits, countOk, depthOk, atAll, checkNumber, fitNumber, Ordered};
 ghost use Rattle.checker.specs.Depths.{checked, depthsOf};
 
 fn kind_at(plan: &[u8], v: usize) -> u8
@@ -174,6 +174,17 @@ pub fn check(plan: &[u8]) -> u8
     0
 }
 
+// The number that `check` answers; where that is 0, 7 unless `fits`: the lengths of what is lent beside the plan are right.
+pub fn fit(plan: &[u8], fits: bool) -> u8
+    ensures { λ r. ⌜ r ≡ fitNumber (now (plan .entry)) fits ⌝ }
+{
+    let number = check(plan);
+    if number != 0 {
+        return number;
+    }
+    if fits { 0 } else { 7 }
+}
+
 // Leaves each node's depth in `out`, which is one byte a node.
 fn depths(plan: &[u8], out: &mut [u8])
     requires { ⌜ Ordered (now plan) × (length (now out) ≡ size (now plan)) ⌝ }
@@ -194,12 +205,9 @@ fn depths(plan: &[u8], out: &mut [u8])
 pub fn check_depths(plan: &[u8], out: &mut [u8]) -> u8
     ensures { λ r. ⌜ depthsOf (now (plan .entry)) (now (out .entry)) ≡ checked (now (out .exit)) r ⌝ }
 {
-    let bad = check(plan);
+    let bad = fit(plan, out.len() == plan::node_count(plan));
     if bad != 0 {
         return bad;
-    }
-    if out.len() != plan::node_count(plan) {
-        return 7;
     }
     depths(plan, out);
     0

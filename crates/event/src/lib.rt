@@ -84,12 +84,9 @@ pub fn with_bit(b: u8, code: u8) -> u8
 pub fn validate(plan: &[u8], fits: bool, sited: bool, code: u32, node: u32) -> u8
     ensures { λ r. ⌜ r ≡ invalid (now (plan .entry)) fits sited code node ⌝ }
 {
-    let n = checker::check(plan);
+    let n = checker::fit(plan, fits);
     if n != 0 {
         return n;
-    }
-    if !fits {
-        return 7;
     }
     if !sited {
         return 8;

@@ -5,8 +5,8 @@ use Prim.Native.Nat.{ℕ}
 use lib.ListN.{length, replicate}
 use Rattle.lists.specs.Seq.{all, any, keep, upFrom, allBelow, table}
 use Rattle.plan.specs.Plan.{kindNumber, isKind, kindOf, size, kindByte, kind, parent, childrenBelow, children, childCount, depthWithin, depth}
-use Rattle.plan.specs.Check.{lengthOk, kindOk, parentOk, underBlock, fits, countOk, depthOk, atAll, checkNumber}
-use Rattle.pass.specs.Pass.{goesBy, goes, oneOrTwo, badAnswer, badPick, closes, goodMark, childMark, skip, note, ending, endOf, nothing, unwalked, noted, meetBy, meet, walk, close, settleIf, settleBy, settle, Passed, passed, numberOf, rootMark, passOf, pass, passInto}
+use Rattle.plan.specs.Check.{lengthOk, kindOk, parentOk, underBlock, fits, countOk, depthOk, atAll, checkNumber, fitNumber}
+use Rattle.pass.specs.Pass.{goesBy, goes, oneOrTwo, badAnswer, badPick, closes, goodMark, childMark, skip, note, ending, endOf, nothing, unwalked, noted, meetBy, meet, walk, close, settleIf, settleBy, settle, Passed, passed, numberOf, rootMark, passOf, pass, passNumber, passInto}
 use Rattle.pass.specs.Record.{commonTable, frameOk, tableOk, tableNumber, classOf, aboveWithin, nodesAbove, fell, countsAbove, countsAs, class}
 
 -- the lent marks are nines, one an answer
@@ -59,7 +59,7 @@ cases =
     ∷ []
 
 pub all-right : map (λ k. passInto (k .plan) (k .answers) (replicate (length (k .answers)) 9)) cases ≡ map (λ k. k .result) cases
-unfolding passInto pass passOf numberOf rootMark settle settleBy settleIf close walk meet meetBy noted unwalked nothing endOf ending note skip childMark goodMark closes badPick badAnswer oneOrTwo goes goesBy checkNumber lengthOk atAll kindOk parentOk underBlock fits countOk depthOk kindNumber isKind kindOf size kindByte kind parent childrenBelow children childCount depthWithin depth keep upFrom allBelow cases case
+unfolding passInto passNumber fitNumber pass passOf numberOf rootMark settle settleBy settleIf close walk meet meetBy noted unwalked nothing endOf ending note skip childMark goodMark closes badPick badAnswer oneOrTwo goes goesBy checkNumber lengthOk atAll kindOk parentOk underBlock fits countOk depthOk kindNumber isKind kindOf size kindByte kind parent childrenBelow children childCount depthWithin depth keep upFrom allBelow cases case
 all-right = refl
 
 -- a task's class by its mark, 0 to 6, and a block's

@@ -1,11 +1,10 @@
 -- Assumes nothing.
 use mathlib.Core.Path.{sym, _∙_}
 use borrow.Author.Tests.{ne-eqb}
-use Rattle.plan.specs.Check.{checkNumber}
-use Rattle.simulation.specs.Run.{fitNumber}
+use Rattle.plan.specs.Check.{checkNumber, fitNumber}
 use borrow.Author.Needs.{needs}
-use Rattle.simulation.proofs.fit.Statement.{statement}
-use Rattle.simulation.proofs.fit.Tie as tie
+use Rattle.checker.proofs.fit.Statement.{statement}
+use Rattle.checker.proofs.fit.Tie as tie
 
 check-requires : tie.Need-check-requires
 check-requires c κs = search needs
