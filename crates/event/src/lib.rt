@@ -1,11 +1,9 @@
 // Events of a plan: which are known and apply, at whose site they happen, their bits in a byte, and the tests with which every call on an
 // event begins. What the words mean is specs/; no public function has a `requires`.
 ghost use mathlib.Core.Path.{_≡_};
-ghost use mathlib.Core.Bool.{_&&_};
-ghost use Prim.Native.Nat.{ℕ, _<_, _≤_};
-ghost use lib.Dec.{ltb};
+ghost use Prim.Native.Nat.{_<_, _≤_};
 ghost use Rattle.plan.specs.Plan.{kindOf, xor, isKind, size};
-ghost use Rattle.event.specs.Event.{codeOf, eventOf, appliesBy, applies, known, isCode};
+ghost use Rattle.event.specs.Event.{codeOf, eventOf, appliesBy, applies, known};
 ghost use Rattle.event.specs.Site.{hostOf};
 ghost use Rattle.event.specs.Bit.{hasBit, withBit};
 ghost use Rattle.event.specs.Valid.{invalid};

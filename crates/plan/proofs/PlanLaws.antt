@@ -55,10 +55,6 @@ children-yes p c u l e = children-suc p c u l ∙ rw (eq-eqb (parent p c) u e)
 pub children-no : (p : List ℕ) (c u : ℕ) → 0 < c → (parent p c ≡ u → ⊥) → childrenBelow p (c + 1) u ≡ childrenBelow p c u
 children-no p c u l e = children-suc p c u l ∙ rw (ne-eqb (parent p c) u e) (append-nil (childrenBelow p c u))
 
-pub children-all : (p : List ℕ) (u : ℕ) → childrenBelow p (size p) u ≡ children p u
-unfolding children
-children-all p u = refl
-
 -- the kind is read off the kind byte
 pub kind-byte : (p : List ℕ) (v : ℕ) → kind p v ≡ kindOf (kindByte p v)
 unfolding kind
