@@ -29,7 +29,7 @@ pub(crate) fn call(
     b: &mut [u8],
 ) -> usize {
     match letter {
-        b'K' => plan::wide(plan::check(plan)),
+        b'K' => plan::wide(checker::check(plan)),
         b'G' => written(guard::write_guard(plan, code, node, a)),
         b'S' => plan::wide(site::number(site::step(plan, code, node, a))),
         b'H' => plan::wide(site::hear(plan, code, node, a)),

@@ -5,7 +5,7 @@ use mathlib.Core.List.{List, [], _∷_, map}
 use Prim.Native.Nat.{ℕ}
 use Rattle.lists.specs.Seq.{all, any, keep, upFrom, allBelow, earlier}
 use Rattle.plan.specs.Plan.{kindNumber, isKind, kindOf, size, kindByte, kind, parent, childrenBelow, children, childCount, others, above, inXor, depthWithin, depth}
-use Rattle.plan.specs.Check.{lengthOk, kindOk, parentOk, underBlock, fits, countOk, depthOk, atAll, checkNumber}
+use Rattle.plan.specs.Check.{lengthOk, kindOk, parentOk, underBlock, fits, countOk, depthOk, atAll, checkNumber, fitNumber}
 use Rattle.event.specs.Event.{start, offer, commit, pick, down, codeNumber, codeOf, isCode, Event, at, appliesBy, applies, known}
 use Rattle.event.specs.Bit.{weight, hasBit, withBit}
 use Rattle.event.specs.Valid.{invalid}
@@ -74,5 +74,5 @@ pub all-right :
     × (allAllowed plan run none none ≡ true)
     × (marksLeft plan run none none ≡ six 3 3 3 3 5 3)
     × (notesLeft plan run none none ≡ picked)
-unfolding plan six none offers picked case cases run allAllowed marksLeft notesLeft rulingValue ruleOf ruleInvalid rightSize decide stateOf answerOf noted marksAfter notesAfter invalid known applies appliesBy isCode codeNumber codeOf weight hasBit withBit markNumber isMark markOf markAfter isYes isNo reachedBy mayStart ofBranch finishesBy failsBy allowedBy allowed checkNumber lengthOk atAll kindOk parentOk underBlock fits countOk depthOk kindNumber isKind kindOf size kindByte kind parent childrenBelow children childCount others above inXor depthWithin depth all any keep upFrom allBelow earlier
+unfolding plan six none offers picked case cases run allAllowed marksLeft notesLeft rulingValue ruleOf ruleInvalid rightSize decide stateOf answerOf noted marksAfter notesAfter invalid known applies appliesBy isCode codeNumber codeOf weight hasBit withBit markNumber isMark markOf markAfter isYes isNo reachedBy mayStart ofBranch finishesBy failsBy allowedBy allowed fitNumber checkNumber lengthOk atAll kindOk parentOk underBlock fits countOk depthOk kindNumber isKind kindOf size kindByte kind parent childrenBelow children childCount others above inXor depthWithin depth all any keep upFrom allBelow earlier
 all-right = (refl, refl, refl, refl)

@@ -1,15 +1,15 @@
 -- Codes by their numbers: where an event applies, at whose site it happens, and what a test over all codes tells. Assumes nothing.
-use mathlib.Core.Path.{_≡_, refl, sym, ap, _∙_}
+use mathlib.Core.Path.{_≡_, refl}
 use mathlib.Core.Bool.{Bool, true, false, cond}
 use mathlib.Core.List.{List, [], _∷_}
 use mathlib.Core.Logic.{_⊎_, inl, inr, ⊎-elim}
-use Prim.Native.Nat.{ℕ, zero, suc, _+_, _≤_, _<_}
+use Prim.Native.Nat.{ℕ, zero, suc, _+_, _≤_}
 use native.Mathlib.Omega.{arith}
 use borrow.Author.Tests.{ne-eqb, eqb-true, eqb-false, leb-true}
 use lib.Dec.{eqb, leb}
 use Rattle.lists.specs.Member.{In, here, there}
 use Rattle.lists.proofs.Logic.{cases, decided, and-left, and-right}
-use Rattle.plan.specs.Plan.{Kind, xor, conditional, kindNumber, isKind, kindOf}
+use Rattle.plan.specs.Plan.{xor, conditional, kindNumber, isKind, kindOf}
 use Rattle.plan.proofs.KindLaws.{is-kind}
 use Rattle.event.specs.Event.{Code, start, offer, commit, abort, answered-yes, answered-no, pick, down, codeNumber, codeOf, isCode, appliesBy}
 use Rattle.event.specs.Site.{hostBy}

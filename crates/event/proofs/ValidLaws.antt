@@ -1,15 +1,16 @@
 -- The tests of specs/Valid.antt: which fails first, and what is known where none does. Assumes nothing.
-use mathlib.Core.Path.{_≡_, refl, sym, _∙_}
+use mathlib.Core.Path.{_≡_, refl, _∙_}
 use mathlib.Core.Bool.{Bool, true, false, cond, _&&_, not, and-false}
 use mathlib.Core.List.{List}
 use Prim.Native.Nat.{ℕ, suc, _≤_, _<_}
 use native.Mathlib.Omega.{arith}
-use borrow.Author.Tests.{eq-eqb, ne-eqb, eqb-true, eqb-false, ltb-true, lt-ltb, not-true, not-false}
-use lib.Dec.{eqb, ltb}
-use Rattle.lists.proofs.Logic.{cases, decided, and-left, and-right, and-join}
+use borrow.Author.Tests.{ne-eqb, eqb-true, eqb-false, ltb-true}
+use lib.Dec.{eqb}
+use Rattle.lists.proofs.Logic.{cases, decided, and-left, and-right}
 use Rattle.plan.specs.Plan.{size}
-use Rattle.plan.specs.Check.{checkNumber, Accepted}
-use Rattle.plan.proofs.Main.{check-exact}
+use Rattle.plan.specs.Check.{checkNumber, fitNumber}
+use Rattle.plan.proofs.FitLaws.{fit-right}
+use Rattle.plan.proofs.Main.{fit-exact}
 use Rattle.event.specs.Event.{isCode, eventOf, known, applies}
 use Rattle.event.specs.Valid.{invalid, Valid}
 use Rattle.event.proofs.CodeLaws.{code-range}
@@ -26,32 +27,30 @@ known-told p code node h =
     record { low = r .0; high = r .1; node-in = ltb-true node (size p) (and-right (isCode code) _ h) }
 
 module _ (p : List ℕ) (fits sited : Bool) (code node : ℕ) where
-  pub invalid-plan : (checkNumber p ≡ 0 → ⊥) → invalid p fits sited code node ≡ checkNumber p
+  pub invalid-fit : (fitNumber p fits ≡ 0 → ⊥) → invalid p fits sited code node ≡ fitNumber p fits
   unfolding invalid
-  invalid-plan h = rw (ne-eqb (checkNumber p) 0 h)
+  invalid-fit h = rw (ne-eqb (fitNumber p fits) 0 h)
 
-  module _ (plan : checkNumber p ≡ 0) where
-    pub invalid-length : fits ≡ false → invalid p fits sited code node ≡ 7
+  module _ (plan : checkNumber p ≡ 0) (long : fits ≡ true) where
+    fitting : fitNumber p fits ≡ 0
+    fitting = rw long (fit-right p ∙ plan)
+
+    pub invalid-unsited : sited ≡ false → invalid p fits sited code node ≡ 8
     unfolding invalid
-    invalid-length l = rw (plan, l)
+    invalid-unsited s = rw (fitting, s, and-false)
 
-    module _ (long : fits ≡ true) where
-      pub invalid-unsited : sited ≡ false → invalid p fits sited code node ≡ 8
+    pub invalid-unknown : known p code node ≡ false → invalid p fits sited code node ≡ 8
+    unfolding invalid
+    invalid-unknown k = rw (fitting, k)
+
+    module _ (placed : sited ≡ true) (knows : known p code node ≡ true) where
+      pub invalid-inapplicable : applies p (eventOf code node) ≡ false → invalid p fits sited code node ≡ 9
       unfolding invalid
-      invalid-unsited s = rw (plan, long, s, and-false)
+      invalid-inapplicable e = rw (fitting, knows, placed, e)
 
-      pub invalid-unknown : known p code node ≡ false → invalid p fits sited code node ≡ 8
+      pub invalid-none : applies p (eventOf code node) ≡ true → invalid p fits sited code node ≡ 0
       unfolding invalid
-      invalid-unknown k = rw (plan, long, k)
-
-      module _ (placed : sited ≡ true) (knows : known p code node ≡ true) where
-        pub invalid-inapplicable : applies p (eventOf code node) ≡ false → invalid p fits sited code node ≡ 9
-        unfolding invalid
-        invalid-inapplicable e = rw (plan, long, knows, placed, e)
-
-        pub invalid-none : applies p (eventOf code node) ≡ true → invalid p fits sited code node ≡ 0
-        unfolding invalid
-        invalid-none e = rw (plan, long, knows, placed, e)
+      invalid-none e = rw (fitting, knows, placed, e)
 
   -- a number is 0 only where every test passed
   test : (t : Bool) (n r : ℕ) → cond (not t) (suc n) r ≡ 0 → (t ≡ true) × (r ≡ 0)
@@ -64,14 +63,14 @@ module _ (p : List ℕ) (fits sited : Bool) (code node : ℕ) where
   pub valid : invalid p fits sited code node ≡ 0 → Valid p fits sited code node
   unfolding invalid
   valid h =
-      let a = first (checkNumber p) _ h in
-      let b = test fits 6 _ (a .1) in
-      let c = test (known p code node && sited) 7 _ (b .1) in
+      let a = first (fitNumber p fits) _ h in
+      let b = fit-exact p fits .none .0 (a .0) in
+      let c = test (known p code node && sited) 7 _ (a .1) in
       let d = test (applies p (eventOf code node)) 8 0 (c .1) in
       let k = known-told p code node (and-left _ _ (c .0)) in
       record {
-        plan = (check-exact p) .0 (a .0);
-        long = b .0;
+        plan = b .0;
+        long = b .1;
         placed = and-right (known p code node) _ (c .0);
         low = k .low;
         high = k .high;

@@ -5,17 +5,16 @@ use mathlib.Core.List.{List}
 use Prim.Native.Nat.{ℕ, _≤_, _<_}
 use lib.Dec.{eqb}
 use Rattle.plan.specs.Plan.{size}
-use Rattle.plan.specs.Check.{checkNumber, Accepted}
+use Rattle.plan.specs.Check.{fitNumber, Accepted}
 use Rattle.event.specs.Event.{eventOf, known, applies}
 
 -- The number of the first test that fails, and 0 where none does: 1 to 6 the plan, 7 the lent lengths (`fits` says they are right),
 -- 8 the code, the node and, where a site is named, the site (`sited` says it is in the plan), 9 whether the event applies.
 unfoldable pub invalid : List ℕ → Bool → Bool → ℕ → ℕ → ℕ
 invalid p fits sited code node =
-    cond (not (eqb (checkNumber p) 0)) (checkNumber p)
-    (cond (not fits) 7
+    cond (not (eqb (fitNumber p fits) 0)) (fitNumber p fits)
     (cond (not (known p code node && sited)) 8
-    (cond (not (applies p (eventOf code node))) 9 0)))
+    (cond (not (applies p (eventOf code node))) 9 0))
 
 -- what is known where none fails
 pub record Valid (p : List ℕ) (fits sited : Bool) (code node : ℕ) : Type 0 where

@@ -1,11 +1,9 @@
 // Events of a plan: which are known and apply, at whose site they happen, their bits in a byte, and the tests with which every call on an
 // event begins. What the words mean is specs/; no public function has a `requires`.
 ghost use mathlib.Core.Path.{_≡_};
-ghost use mathlib.Core.Bool.{_&&_};
-ghost use Prim.Native.Nat.{ℕ, _<_, _≤_};
-ghost use lib.Dec.{ltb};
+ghost use Prim.Native.Nat.{_<_, _≤_};
 ghost use Rattle.plan.specs.Plan.{kindOf, xor, isKind, size};
-ghost use Rattle.event.specs.Event.{codeOf, eventOf, appliesBy, applies, known, isCode};
+ghost use Rattle.event.specs.Event.{codeOf, eventOf, appliesBy, applies, known};
 ghost use Rattle.event.specs.Site.{hostOf};
 ghost use Rattle.event.specs.Bit.{hasBit, withBit};
 ghost use Rattle.event.specs.Valid.{invalid};
@@ -84,12 +82,9 @@ pub fn with_bit(b: u8, code: u8) -> u8
 pub fn validate(plan: &[u8], fits: bool, sited: bool, code: u32, node: u32) -> u8
     ensures { λ r. ⌜ r ≡ invalid (now (plan .entry)) fits sited code node ⌝ }
 {
-    let n = plan::check(plan);
+    let n = checker::fit(plan, fits);
     if n != 0 {
         return n;
-    }
-    if !fits {
-        return 7;
     }
     if !sited {
         return 8;

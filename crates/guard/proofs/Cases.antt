@@ -7,7 +7,7 @@ use Prim.Native.Nat.{ℕ, zero, suc}
 use lib.ListN.{length, replicate}
 use Rattle.lists.specs.Seq.{keep, upFrom, allBelow, lastOr, headOr}
 use Rattle.plan.specs.Plan.{kindNumber, isKind, kindOf, size, kindByte, kind, parent, childrenBelow, children, childCount, others, above, aboveByte, inXor, depthWithin, depth}
-use Rattle.plan.specs.Check.{lengthOk, kindOk, parentOk, underBlock, fits, countOk, depthOk, atAll, checkNumber}
+use Rattle.plan.specs.Check.{lengthOk, kindOk, parentOk, underBlock, fits, countOk, depthOk, atAll, checkNumber, fitNumber}
 use Rattle.event.specs.Event.{codeNumber, codeOf, isCode, eventOf, appliesBy, applies, known, commit, at}
 use Rattle.event.specs.Valid.{invalid}
 use Rattle.guard.specs.Guard.{isFirst, beforeIn, startBy, finishBy, abortBy, finishing, aborting, guardBy, guard}
@@ -77,7 +77,7 @@ table =
 pub all-right : map (λ k. writeOf (k .plan) (k .code) (k .node) (k .buffer)) table ≡ map (λ k. filled (k .left) (k .answer)) table
 unfolding table writes refuses planP tasks xorOf lastChance branch both writeOf fitted encode encClauses encEvents codeNumber guard guardBy startBy finishBy
     abortBy finishing aborting isFirst headOr beforeIn lastOr codeOf isCode appliesBy applies known invalid kindNumber isKind kindOf size kindByte kind parent
-    childrenBelow children childCount others above inXor depthWithin depth keep upFrom allBelow lengthOk kindOk parentOk underBlock fits countOk depthOk atAll checkNumber
+    childrenBelow children childCount others above inXor depthWithin depth keep upFrom allBelow lengthOk kindOk parentOk underBlock fits countOk depthOk atAll checkNumber fitNumber
 all-right = refl
 
 -- the bound of guard-short is met by the finish of an xor with 32 children
@@ -118,5 +118,5 @@ everyRule =
 pub every-byte : map (λ k. ruleAnswer (k .plan) (k .code) (k .node)) everyRule ≡ map (named 0) ruleBytes
 unfolding everyRule rule pairOf offers ofKind tasks xorOf ruleAnswer ruleBytes ruleKind isPicked ruleByte aboveByte codeNumber codeOf isCode appliesBy applies known invalid
     kindNumber isKind kindOf size kindByte kind parent childrenBelow children childCount above inXor depthWithin depth keep upFrom allBelow lengthOk kindOk parentOk
-    underBlock fits countOk depthOk atAll checkNumber
+    underBlock fits countOk depthOk atAll checkNumber fitNumber
 every-byte = refl

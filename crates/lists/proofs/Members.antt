@@ -40,16 +40,6 @@ module _ {A : Type 0} where
       go k (left e) = (y, here refl, e)
       go k (right e) = more (k e)
 
-  pub all-same : (f g : A → Bool) (xs : List A) → ((x : A) → In x xs → f x ≡ g x) → all f xs ≡ all g xs
-  unfolding all
-  all-same f g [] h = refl
-  all-same f g (y ∷ xs) h = rw (h y (here refl), all-same f g xs (λ x i. h x (there i)))
-
-  pub any-same : (f g : A → Bool) (xs : List A) → ((x : A) → In x xs → f x ≡ g x) → any f xs ≡ any g xs
-  unfolding any
-  any-same f g [] h = refl
-  any-same f g (y ∷ xs) h = rw (h y (here refl), any-same f g xs (λ x i. h x (there i)))
-
   pub keep-in : (f : A → Bool) (xs : List A) {x : A} → In x (keep f xs) → In x xs × (f x ≡ true)
   unfolding keep
   keep-in f (y ∷ xs) {x} i = go (f y) refl (keep-in f xs) i

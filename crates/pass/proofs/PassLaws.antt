@@ -1,6 +1,6 @@
 -- The whole pass: what was refused before it, and how the settled root's marks are handed out. Assumes nothing.
 use mathlib.Core.Path.{_≡_, sym, _∙_, ap}
-use mathlib.Core.Bool.{Bool, true, not, cond, _&&_}
+use mathlib.Core.Bool.{not, cond, _&&_}
 use mathlib.Core.List.{List, [], _++_, append-nil}
 use Prim.Native.Nat.{ℕ, _+_, _≤_}
 use native.Mathlib.Omega.{arith}
@@ -8,39 +8,30 @@ use lib.Dec.{eqb}
 use lib.ListN.{length, set, take, drop, replicate, length-append, drop-of-length-le}
 use lib.Seq.{take-at, take-length}
 use borrow.Author.Tests.{eq-eqb, ne-eqb, eqb-true}
-use Rattle.lists.proofs.Logic.{no-bool, and-left, and-right}
+use Rattle.lists.proofs.Logic.{and-left, and-right, and-join}
 use Rattle.lists.proofs.Lent.{fresh-zeros, fresh-length}
 use Rattle.plan.specs.Plan.{size}
-use Rattle.plan.specs.Check.{checkNumber}
-use Rattle.plan.proofs.Main.{check-exact}
-use Rattle.pass.specs.Pass.{numberOf, rootMark, passOf, pass, passed, passInto}
+use Rattle.plan.specs.Check.{fitNumber}
+use Rattle.plan.proofs.Main.{fit-exact}
+use Rattle.pass.specs.Pass.{numberOf, rootMark, passOf, pass, passed, passNumber, passInto}
 use Rattle.pass.specs.Values.{outcomeOf, Ready, Linked, Settles}
 use Rattle.pass.specs.declared.Outcome.{Outcome}
 
--- the code's numbers: k of the plan's check, n its node count
-module _ (p a m : List ℕ) (k : ℕ) (told : k ≡ checkNumber p) where
-  pub into-check : (k ≡ 0 → ⊥) → passInto p a m ≡ passed k m
-  unfolding passInto
-  into-check h = rw (← told, ne-eqb k 0 h)
+-- k is what `fit` answered, n the node count
+module _ (p a m : List ℕ) (k n : ℕ) (count : n ≡ size p) (told : k ≡ fitNumber p (eqb (length a) n && eqb (length m) n)) where
+  pub into-refused : (k ≡ 0 → ⊥) → passInto p a m ≡ passed k m
+  unfolding passInto passNumber
+  into-refused h = rw (← count, ← told, ne-eqb k 0 h)
 
-  module _ (passes : k ≡ 0) (n : ℕ) (e : n ≡ size p) where
-    pub into-lengths : (length a ≡ n → length m ≡ n → ⊥) → passInto p a m ≡ passed 7 m
-    unfolding passInto
-    into-lengths h = rw (
-      ← told,
-      passes,
-      no-bool (test a && test m) (λ q.
-          h (same a (and-left (test a) (test m) q)) (same m (and-right (test a) (test m) q))),
-    )
-      where
-        test : List ℕ → Bool
-        test s = eqb (length s) (size p)
-
-        same : (s : List ℕ) → test s ≡ true → length s ≡ n
-        same s q = eqb-true (length s) (size p) q ∙ sym e
-
-    pub into-ready : length a ≡ n → length m ≡ n → Ready p a m 0
-    into-ready f g = let ok = check-exact p .0 (sym told ∙ passes) in record { accepted = ok; answers = f ∙ e; marks = g ∙ e; node = ok .some }
+  pub into-ready : k ≡ 0 → Ready p a m 0
+  into-ready none =
+      let f = fit-exact p _ .none .0 (sym told ∙ none) in
+      record {
+        accepted = f .0;
+        answers = eqb-true (length a) n (and-left _ _ (f .1)) ∙ count;
+        marks = eqb-true (length m) n (and-right (eqb (length a) n) _ (f .1)) ∙ count;
+        node = f .0 .some;
+      }
 
 -- the buffer's front, which begins as zeros, and with y in its place
 abbrev blank : ℕ → List ℕ
@@ -90,10 +81,10 @@ module _ {p a m : List ℕ} {n : ℕ} {y : List ℕ} {o : Outcome} (root : Root 
   front-fits = omega (arith, front-length, root .size-is, root .ready .marks)
 
   into-pass : passInto p a m ≡ cond (not (eqb (pass p a .number) 0)) (passed (pass p a .number) m) (pass p a)
-  unfolding passInto
+  unfolding passInto passNumber
   into-pass =
       let r = root .ready in
-      rw (check-exact p .1 (r .accepted), eq-eqb (length a) (size p) (r .answers), eq-eqb (length m) (size p) (r .marks))
+      rw (fit-exact p _ .none .1 (r .accepted, and-join _ _ (eq-eqb (length a) (size p) (r .answers)) (eq-eqb (length m) (size p) (r .marks))))
 
   module _ (k : ℕ) (told : k ≡ numberOf (outcomeOf o)) where
     pass-is : pass p a ≡ passed k (set y 0 (rootMark (outcomeOf o)))

@@ -8,7 +8,7 @@ use Prim.Native.Nat.{ℕ, zero, suc}
 use lib.Dec.{eqb}
 use lib.ListN.{length, getD, set, replicate}
 use Rattle.plan.specs.Plan.{Kind, task, serial, and, or, xor, contingency, conditional, waiting, kind, size, children, isKind}
-use Rattle.plan.specs.Check.{checkNumber}
+use Rattle.plan.specs.Check.{fitNumber}
 
 -- how a node ends. F3: it works if it commits, or offers as a child of an xor; it breaks if it fails. F5: a fault's number is 13 or 14
 pub data Outcome : Type 0 where
@@ -179,11 +179,14 @@ passOf r = record { number = numberOf (r .outcome); marks = set (r .marks) 0 (ro
 unfoldable pub pass : List ℕ → List ℕ → Passed
 pass p a = passOf (settle p a (size p) 0 (replicate (size p) 0))
 
--- H0: a call of the pass, with the marks m lent: 1 to 6 of the plan, 7 of the lengths (H7), 13 or 14 of the answers (H13). A refused call
--- leaves the marks; any other leaves every node's
+-- 1 to 6 of the plan, 7 of the lengths (H7)
+unfoldable pub passNumber : List ℕ → List ℕ → List ℕ → ℕ
+passNumber p a m = fitNumber p (eqb (length a) (size p) && eqb (length m) (size p))
+
+-- H0: a call of the pass, with the marks m lent: 1 to 7, then 13 or 14 of the answers (H13). A refused call leaves the marks; any other
+-- leaves every node's
 unfoldable pub passInto : List ℕ → List ℕ → List ℕ → Passed
 passInto p a m =
-    cond (not (eqb (checkNumber p) 0)) (passed (checkNumber p) m)
-    (cond (not (eqb (length a) (size p) && eqb (length m) (size p))) (passed 7 m)
+    cond (not (eqb (passNumber p a m) 0)) (passed (passNumber p a m) m)
     (cond (not (eqb (pass p a .number) 0)) (passed (pass p a .number) m)
-    (pass p a)))
+    (pass p a))

@@ -284,13 +284,10 @@ fn settle_all(plan: &[u8], answers: &[u8], marks: &mut [u8]) -> u8
 pub fn pass(plan: &[u8], answers: &[u8], marks: &mut [u8]) -> u8
     ensures { λ r. ⌜ passInto (now (plan .entry)) (now (answers .entry)) (now (marks .entry)) ≡ passed r (now (marks .exit)) ⌝ }
 {
-    let bad = plan::check(plan);
+    let n = plan::node_count(plan);
+    let bad = checker::fit(plan, (answers.len() == n) & (marks.len() == n));
     if bad != 0 {
         return bad;
-    }
-    let n = plan::node_count(plan);
-    if answers.len() != n || marks.len() != n {
-        return 7;
     }
     settle_all(plan, answers, marks)
 }

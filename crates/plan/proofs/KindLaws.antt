@@ -1,36 +1,18 @@
--- A kind byte by ranges: which it is, and how many children it may have. Assumes nothing.
+-- A kind byte: which kind it is, and the kind above a node. Assumes nothing.
 use mathlib.Core.Path.{_≡_, refl, sym, _∙_}
-use mathlib.Core.Bool.{Bool, true, false, _&&_, cond}
+use mathlib.Core.Bool.{Bool, true, false, cond}
 use mathlib.Core.List.{List}
 use mathlib.Core.Logic.{_⊎_, inl, inr, ⊎-elim}
-use Prim.Native.Nat.{ℕ, zero, suc, _≤_, _<_}
-use lib.Dec.{eqb, leb}
+use Prim.Native.Nat.{ℕ, _≤_, _<_}
+use lib.Dec.{eqb}
 use borrow.Author.Tests.{ne-eqb, eqb-true, eqb-false}
 use native.Mathlib.Omega.{arith}
 use Rattle.lists.proofs.Logic.{cases, decided, no-bool}
 use Rattle.plan.specs.Plan.{Kind, task, serial, and, or, xor, contingency, conditional, waiting, kindNumber, isKind, kindOf, kindByte, kind, parent, above, aboveByte}
-use Rattle.plan.specs.Check.{fits}
 
 pub kind-task : (p : List ℕ) (v : ℕ) → kindByte p v ≡ 1 → kind p v ≡ task
 unfolding kind kindOf
 kind-task p v e = rw e
-
-pub fits-block : (k n : ℕ) → 2 ≤ k → k ≤ 6 → fits (kindOf k) n ≡ (leb 1 n && leb n 32)
-unfolding fits kindOf
-fits-block zero n l m = absurd (omega arith)
-fits-block (suc zero) n l m = absurd (omega arith)
-fits-block (suc (suc zero)) n l m = refl
-fits-block (suc (suc (suc zero))) n l m = refl
-fits-block (suc (suc (suc (suc zero)))) n l m = refl
-fits-block (suc (suc (suc (suc (suc zero))))) n l m = refl
-fits-block (suc (suc (suc (suc (suc (suc zero)))))) n l m = refl
-fits-block (suc (suc (suc (suc (suc (suc (suc k))))))) n l m = absurd (omega arith)
-
-pub fits-low : (k n : ℕ) → k < 2 → fits (kindOf k) n ≡ eqb n 0
-unfolding fits kindOf
-fits-low zero n l = refl
-fits-low (suc zero) n l = refl
-fits-low (suc (suc k)) n l = absurd (omega arith)
 
 -- a byte that is no block's kind is a task's
 pub kind-other : (k : ℕ) → (2 ≤ k → k ≤ 8 → ⊥) → kindOf k ≡ task
@@ -46,18 +28,6 @@ kind-other k h =
       ne 7 (omega arith) (omega arith),
       ne 8 (omega arith) (omega arith),
     )
-
-pub fits-high : (k n : ℕ) → 8 < k → fits (kindOf k) n ≡ eqb n 0
-unfolding fits
-fits-high k n l = rw (kind-other k (λ a b. omega arith))
-
-pub fits-two : (k n : ℕ) → k ≡ 7 → fits (kindOf k) n ≡ eqb n 2
-unfolding fits kindOf
-fits-two k n e = rw e
-
-pub fits-waiting : (k n : ℕ) → k ≡ 8 → fits (kindOf k) n ≡ (leb 1 n && leb n 32)
-unfolding fits kindOf
-fits-waiting k n e = rw e
 
 -- the kind above, read off its byte
 pub above-byte : (p : List ℕ) (v : ℕ) → above p v ≡ kindOf (aboveByte p v)

@@ -1,18 +1,17 @@
 -- Laws of specs/Plan.antt: who a node's children are and in which order, and depths. Assumes nothing.
 use mathlib.Core.Path.{_≡_, refl, _∙_, ap}
-use mathlib.Core.Bool.{Bool, true, false, cond}
+use mathlib.Core.Bool.{cond}
 use mathlib.Core.List.{List, [], _∷_, _++_, append-nil}
-use Prim.Native.Nat.{ℕ, zero, suc, pred, _+_, _≤_, _<_}
+use Prim.Native.Nat.{ℕ, zero, suc, pred, _+_, _<_}
 use lib.Dec.{eqb}
-use lib.ListN.{length}
 use borrow.Author.Tests.{eqb-true, eqb-false, eq-eqb, ne-eqb}
 use native.Mathlib.Omega.{arith}
 use Rattle.lists.specs.Seq.{keep, upFrom}
 use Rattle.lists.specs.Member.{In, Rising}
 use Rattle.lists.proofs.Logic.{cases, decided}
 use Rattle.lists.proofs.Members.{keep-in, in-keep, in-up, up-in, rising-keep, rising-up}
-use Rattle.lists.proofs.Keep.{keep-append, keep-short}
-use Rattle.lists.proofs.Table.{up-suc, up-length}
+use Rattle.lists.proofs.Keep.{keep-append}
+use Rattle.lists.proofs.Table.{up-suc}
 use Rattle.plan.specs.Plan.{kindOf, size, kindByte, kind, parent, childrenBelow, children, depthWithin, depth}
 use Rattle.plan.specs.Check.{Ordered}
 
@@ -56,14 +55,6 @@ children-yes p c u l e = children-suc p c u l ∙ rw (eq-eqb (parent p c) u e)
 pub children-no : (p : List ℕ) (c u : ℕ) → 0 < c → (parent p c ≡ u → ⊥) → childrenBelow p (c + 1) u ≡ childrenBelow p c u
 children-no p c u l e = children-suc p c u l ∙ rw (ne-eqb (parent p c) u e) (append-nil (childrenBelow p c u))
 
-pub children-all : (p : List ℕ) (u : ℕ) → childrenBelow p (size p) u ≡ children p u
-unfolding children
-children-all p u = refl
-
-pub children-short : (p : List ℕ) (n u : ℕ) → length (childrenBelow p n u) ≤ pred n
-unfolding childrenBelow
-children-short p n u = omega (arith, keep-short (λ c. eqb (parent p c) u) (upFrom 1 (pred n)), up-length 1 (pred n))
-
 -- the kind is read off the kind byte
 pub kind-byte : (p : List ℕ) (v : ℕ) → kind p v ≡ kindOf (kindByte p v)
 unfolding kind
@@ -72,19 +63,6 @@ kind-byte p v = refl
 pub depth-root : (p : List ℕ) → depth p 0 ≡ 1
 unfolding depth depthWithin
 depth-root p = refl
-
-pub depth-low : (f : ℕ) (p : List ℕ) (v : ℕ) → depthWithin f p v ≤ f
-unfolding depthWithin
-depth-low zero p v = omega arith
-depth-low (suc f) p v = go (eqb v 0) (depth-low f p (parent p v))
-  where
-    go : (b : Bool) → depthWithin f p (parent p v) ≤ f → cond b 1 (suc (depthWithin f p (parent p v))) ≤ suc f
-    go true h = omega arith
-    go false h = omega arith
-
-pub depth-least : (p : List ℕ) (v : ℕ) → depth p v ≤ suc v
-unfolding depth
-depth-least p v = depth-low (suc v) p v
 
 module _ (p : List ℕ) (ordered : Ordered p) where
   -- more steps up than a node's number change nothing
@@ -101,14 +79,3 @@ module _ (p : List ℕ) (ordered : Ordered p) where
   depth-child v l s =
       let b = ordered .below v l s in
       rw (ne-eqb v 0 (λ e. omega arith)) (ap suc (depth-same v (suc (parent p v)) (parent p v) (omega arith) (omega arith) (omega arith)))
-
--- a loop over an ordered plan's nodes stands at v, whose parent is u; S is what it has done so far
-pub record Turn (S : Type 0) (p : List ℕ) (v u : ℕ) : Type 0 where
-  pub ordered : Ordered p
-  pub so-far : S
-  pub first : 0 < v
-  pub within : v < size p
-  pub up : u ≡ parent p v
-
-pub turn-below : {S : Type 0} {p : List ℕ} {v u : ℕ} → Turn S p v u → u < v
-turn-below {v = v} t = let b = t .ordered .below v (t .first) (t .within) in omega (arith, t .up)

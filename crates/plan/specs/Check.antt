@@ -1,4 +1,4 @@
--- The check of a plan (rules A and H1 to H6), what it accepts, and the MAIN CLAIM. Definitions only.
+-- The check of a plan (rules A and H1 to H7), what it accepts, and the MAIN CLAIM. Definitions only.
 use mathlib.Core.Path.{_≡_}
 use mathlib.Core.Bool.{Bool, true, _&&_, cond, not}
 use mathlib.Core.List.{List, []}
@@ -57,6 +57,10 @@ checkNumber p =
     (cond (not (atAll countOk p)) 5
     (cond (not (atAll depthOk p)) 6 0)))))
 
+-- H1 to H7: a call with bytes lent: 1 to 6 of the plan, then 7 where a lent length is wrong (`right` says that all are right), else 0
+unfoldable pub fitNumber : List ℕ → Bool → ℕ
+fitNumber p right = cond (not (eqb (checkNumber p) 0)) (checkNumber p) (cond (not right) 7 0)
+
 -- What tests 1 and 3 tell: 1 to 160 nodes, every parent number but the root's below its own.
 pub record Ordered (p : List ℕ) : Type 0 where
   pub some : 0 < size p
@@ -85,3 +89,11 @@ pub record Accepted (p : List ℕ) : Type 0 where
 -- MAIN CLAIM. The check passes every plan within the limits, and no other.
 abbrev pub CheckExact : Type 0
 CheckExact = (p : List ℕ) → (checkNumber p ≡ 0) ↔ Accepted p
+
+-- CLAIM. With bytes lent: 0 is for the plans within the limits with right lengths alone, and a plan's own number comes before 7.
+pub record Fitted (p : List ℕ) (right : Bool) : Type 0 where
+  pub none : (fitNumber p right ≡ 0) ↔ (Accepted p × (right ≡ true))
+  pub first : (checkNumber p ≡ 0 → ⊥) → fitNumber p right ≡ checkNumber p
+
+abbrev pub FitExact : Type 0
+FitExact = (p : List ℕ) (right : Bool) → Fitted p right

@@ -4,8 +4,8 @@ use mathlib.Core.List.{List, [], _∷_, map}
 use Prim.Native.Nat.{ℕ}
 use Rattle.lists.specs.Seq.{keep, upFrom, allBelow, table}
 use Rattle.plan.specs.Plan.{kindOf, size, kindByte, kind, parent, childrenBelow, children, childCount, depthWithin, depth}
-use Rattle.plan.specs.Check.{lengthOk, kindOk, parentOk, underBlock, fits, countOk, depthOk, atAll, checkNumber}
-use Rattle.rewrite.specs.Rewrite.{rewrittenByte, rewritten, Rewrote, rewrote, rewriteOf}
+use Rattle.plan.specs.Check.{lengthOk, kindOk, parentOk, underBlock, fits, countOk, depthOk, atAll, checkNumber, fitNumber}
+use Rattle.rewrite.specs.Rewrite.{rewrittenByte, rewritten, Rewrote, rewrote, rewriteNumber, rewriteOf}
 
 pub record Case : Type 0 where
   pub plan : List ℕ
@@ -28,5 +28,5 @@ cases =
     ∷ []
 
 pub all-right : map (λ k. rewriteOf (k .plan) (k .lent)) cases ≡ map (λ k. k .result) cases
-unfolding rewriteOf rewritten rewrittenByte table checkNumber lengthOk atAll kindOk parentOk underBlock fits countOk depthOk kindOf size kindByte kind parent childrenBelow children childCount depthWithin depth keep upFrom allBelow cases case
+unfolding rewriteOf rewriteNumber fitNumber rewritten rewrittenByte table checkNumber lengthOk atAll kindOk parentOk underBlock fits countOk depthOk kindOf size kindByte kind parent childrenBelow children childCount depthWithin depth keep upFrom allBelow cases case
 all-right = refl

@@ -1,14 +1,14 @@
 -- A byte of the rewritten plan, and the call's answers, in the terms of the code. Assumes nothing.
 use mathlib.Core.Path.{_≡_, sym, _∙_}
-use mathlib.Core.Bool.{and-false}
 use mathlib.Core.List.{List}
 use Prim.Native.Nat.{ℕ, _%_}
 use lib.Dec.{eqb}
 use lib.ListN.{length, getD}
 use borrow.Author.Tests.{eq-eqb, ne-eqb, eqb-true}
 use Rattle.lists.proofs.Logic.{cases, decided}
-use Rattle.plan.specs.Check.{checkNumber}
-use Rattle.rewrite.specs.Rewrite.{rewrittenByte, rewritten, rewrote, rewriteOf}
+use Rattle.plan.specs.Check.{fitNumber}
+use Rattle.plan.proofs.FitLaws.{fit-none}
+use Rattle.rewrite.specs.Rewrite.{rewrittenByte, rewritten, rewrote, rewriteNumber, rewriteOf}
 
 -- b is the plan's byte
 module _ (p : List ℕ) (i b : ℕ) (read : b ≡ getD p i 0) where
@@ -22,17 +22,16 @@ module _ (p : List ℕ) (i b : ℕ) (read : b ≡ getD p i 0) where
       (λ e. rw (e, ← read, ne-eqb b 3 (n (eqb-true (i % 2) 0 e))))
       (λ e. rw (e, ← read))
 
--- n is the plan's number
-module _ (p out : List ℕ) (n : ℕ) (told : n ≡ checkNumber p) where
-  pub rewrite-bad : (n ≡ 0 → ⊥) → rewriteOf p out ≡ rewrote n out
-  unfolding rewriteOf
-  rewrite-bad h = rw (← told, ne-eqb n 0 h)
+-- n is what `fit` answered
+module _ (p out : List ℕ) (n : ℕ) (told : n ≡ fitNumber p (eqb (length out) (length p))) where
+  pub rewrite-refused : (n ≡ 0 → ⊥) → rewriteOf p out ≡ rewrote n out
+  unfolding rewriteOf rewriteNumber
+  rewrite-refused h = rw (← told, ne-eqb n 0 h)
 
   module _ (fine : n ≡ 0) where
-    pub rewrite-length : (length out ≡ length p → ⊥) → rewriteOf p out ≡ rewrote 7 out
-    unfolding rewriteOf
-    rewrite-length h = rw (← told, eq-eqb n 0 fine, ne-eqb (length out) (length p) h)
+    pub rewrite-long : length out ≡ length p
+    rewrite-long = eqb-true (length out) (length p) (fit-none p _ (sym told ∙ fine) .1)
 
-    pub rewrite-done : (new : List ℕ) → length out ≡ length p → new ≡ rewritten p → rewriteOf p out ≡ rewrote 0 new
-    unfolding rewriteOf
-    rewrite-done new h e = rw (← told, eq-eqb n 0 fine, eq-eqb (length out) (length p) h, e)
+    pub rewrite-done : (new : List ℕ) → new ≡ rewritten p → rewriteOf p out ≡ rewrote 0 new
+    unfolding rewriteOf rewriteNumber
+    rewrite-done new e = rw (← told, fine, e)

@@ -5,7 +5,7 @@ use Prim.Native.Nat.{ℕ, _%_}
 use lib.Dec.{eqb}
 use lib.ListN.{length, getD}
 use Rattle.lists.specs.Seq.{table}
-use Rattle.plan.specs.Check.{checkNumber}
+use Rattle.plan.specs.Check.{fitNumber}
 
 -- A7: a node's kind 03 becomes 08; its other kinds and all parents stay
 unfoldable pub rewrittenByte : List ℕ → ℕ → ℕ
@@ -22,9 +22,12 @@ pub record Rewrote : Type 0 where
 abbrev pub rewrote : ℕ → List ℕ → Rewrote
 rewrote n out = record { number = n; out = out }
 
--- H0: 1 to 6 of the plan, then 7 where the lent bytes have not its length. A refused call leaves them
+-- H0: 1 to 6 of the plan, then 7 where the lent bytes have not its length
+unfoldable pub rewriteNumber : List ℕ → List ℕ → ℕ
+rewriteNumber p out = fitNumber p (eqb (length out) (length p))
+
+-- a refused call leaves the lent bytes
 unfoldable pub rewriteOf : List ℕ → List ℕ → Rewrote
 rewriteOf p out =
-    cond (not (eqb (checkNumber p) 0)) (rewrote (checkNumber p) out)
-    (cond (not (eqb (length out) (length p))) (rewrote 7 out)
-    (rewrote 0 (rewritten p)))
+    cond (not (eqb (rewriteNumber p out) 0)) (rewrote (rewriteNumber p out) out)
+    (rewrote 0 (rewritten p))

@@ -29,12 +29,9 @@ fn write(plan: &[u8], out: &mut [u8])
 pub fn rewrite(plan: &[u8], out: &mut [u8]) -> u8
     ensures { λ r. ⌜ rewriteOf (now (plan .entry)) (now (out .entry)) ≡ rewrote r (now (out .exit)) ⌝ }
 {
-    let bad = plan::check(plan);
+    let bad = checker::fit(plan, out.len() == plan.len());
     if bad != 0 {
         return bad;
-    }
-    if out.len() != plan.len() {
-        return 7;
     }
     write(plan, out);
     0

@@ -13,17 +13,14 @@ use Rattle.lists.proofs.Table.{table-length}
 use Rattle.lists.proofs.Lent.{fresh-zeros}
 use Rattle.plan.specs.Plan.{size}
 use Rattle.plan.specs.Check.{checkNumber}
+use Rattle.plan.proofs.FitLaws.{fit-right}
 use Rattle.plan.proofs.Main.{check-exact}
 use Rattle.event.specs.Site.{own}
 use Rattle.retention.specs.Record.{tableNumber, recordOf}
 use Rattle.simulation.specs.Simulation.{Step, simulate, stateFits, zeros, replay, numbersFrom, endMarks}
 use Rattle.script.specs.Script.{Zeros}
 use Rattle.lists.proofs.Parts.{part-length, Back}
-use Rattle.simulation.specs.Run.{fitNumber, Recorded, recorded, recordNumber, recordByNumber, recordByInto, stepsOf, stepsFrom, Ran, ran, runNumber, runOf}
-
-fit-is : (p : List ℕ) → fitNumber p true ≡ checkNumber p
-unfolding fitNumber
-fit-is p = cases (decided (eqb (checkNumber p) 0)) (λ e. rw e (sym (eqb-true (checkNumber p) 0 e))) (λ e. rw e)
+use Rattle.simulation.specs.Run.{Recorded, recorded, recordNumber, recordByNumber, recordByInto, stepsOf, stepsFrom, Ran, ran, runNumber, runOf}
 
 -- the record of an accepted plan, in the fronts of two buffers: n is the code's number of nodes
 pub plan-few : (p : List ℕ) → checkNumber p ≡ 0 → size p ≤ 160
@@ -44,7 +41,7 @@ module _ (p tab st : List ℕ) (right : tableNumber tab ≡ 0) (ok : checkNumber
 
   recordable : recordByNumber p tab st (take n y) (take n z) ≡ 0
   unfolding recordByNumber recordNumber stateFits own
-  recordable = rw (right, eq-eqb (length st) (size p * size p) fits, long y ly, long z lz) (fit-is p ∙ ok)
+  recordable = rw (right, eq-eqb (length st) (size p * size p) fits, long y ly, long z lz) (fit-right p ∙ ok)
 
   pub record-told : (r : ℕ) (m′ c′ : List ℕ) → recordByInto p tab st (take n y) (take n z) ≡ recorded r m′ c′ → RecordTold p tab st n y z m′ c′
   unfolding recordByInto recordOf endMarks
@@ -94,7 +91,7 @@ module _ (p : List ℕ) (few : length p ≤ 320) (n : ℕ) (count : n ≡ size p
           eq-eqb (length (take (n * n) z)) (size p * size p) (sym cells-long ∙ rw count),
           eq-eqb (length bs % 3) 0 whole,
           eq-eqb (length (take (length bs / 3) y)) (length bs / 3) (sym numbers-long),
-        ) (fit-is p)
+        ) (fit-right p)
 
     module _ {r : ℕ} {st′ ns′ : List ℕ} (h : runOf p bs (take (n * n) z) (take (length bs / 3) y) ≡ ran r st′ ns′) where
       told-number : r ≡ checkNumber p

@@ -4,7 +4,7 @@ use mathlib.Core.List.{List, [], _∷_, map}
 use Prim.Native.Nat.{ℕ}
 use Rattle.lists.specs.Seq.{all, any, keep, upFrom, allBelow, table, headOr, lastOr}
 use Rattle.plan.specs.Plan.{kindNumber, isKind, kindOf, size, kindByte, kind, parent, childrenBelow, children, childCount, above, inXor, depthWithin, depth}
-use Rattle.plan.specs.Check.{lengthOk, kindOk, parentOk, underBlock, fits, countOk, depthOk, atAll, checkNumber}
+use Rattle.plan.specs.Check.{lengthOk, kindOk, parentOk, underBlock, fits, countOk, depthOk, atAll, checkNumber, fitNumber}
 use Rattle.event.specs.Event.{codeNumber, codeOf, isCode, appliesBy, applies, known}
 use Rattle.event.specs.Site.{hostBy, hostOf, Layout, own, siteOf}
 use Rattle.event.specs.Bit.{weight, hasBit, withBit}
@@ -67,5 +67,5 @@ cases =
     ∷ []
 
 pub all-right : map (λ k. resultOf (k .rows) (k .steps)) cases ≡ map (λ k. k .result) cases
-unfolding cases case resultOf sitesFrom shared own siteOf hostOf hostBy stepFrom simulate happen tell eventBy stateFits rowOf withRow replayFrom numbersFrom replay zeros markBy markAt endMarks recordOf class classOf countsAs countsAbove nodesAbove aboveWithin fell commonTable invalid known applies appliesBy isCode codeOf codeNumber stepOf stepInvalid decide verdictNumber refusalNumber heard heardIn hear hasBit withBit weight markNumber checkNumber lengthOk kindOk parentOk underBlock fits countOk depthOk atAll size kindByte kind kindOf kindNumber isKind parent childrenBelow children childCount depth depthWithin above inXor guard guardBy startBy finishBy abortBy finishing aborting isFirst headOr beforeIn holds barred bars barsBy all any keep upFrom allBelow table lastOr
+unfolding cases case resultOf sitesFrom shared own siteOf hostOf hostBy stepFrom simulate happen tell eventBy stateFits rowOf withRow replayFrom numbersFrom replay zeros markBy markAt endMarks recordOf class classOf countsAs countsAbove nodesAbove aboveWithin fell commonTable invalid known applies appliesBy isCode codeOf codeNumber stepOf stepInvalid decide verdictNumber refusalNumber heard heardIn hear hasBit withBit weight markNumber fitNumber checkNumber lengthOk kindOk parentOk underBlock fits countOk depthOk atAll size kindByte kind kindOf kindNumber isKind parent childrenBelow children childCount depth depthWithin above inXor guard guardBy startBy finishBy abortBy finishing aborting isFirst headOr beforeIn holds barred bars barsBy all any keep upFrom allBelow table lastOr
 all-right = refl

@@ -1,35 +1,25 @@
 -- The record's and the list's calls: their tests, and what they leave. Assumes nothing.
-use mathlib.Core.Path.{_≡_, refl, _∙_}
-use mathlib.Core.Bool.{Bool, true, false, cond, not, _&&_}
+use mathlib.Core.Path.{_≡_, _∙_}
+use mathlib.Core.Bool.{Bool, true, _&&_}
 use mathlib.Core.List.{List}
 use Prim.Native.Nat.{ℕ, _+_, _*_, _/_, _%_, _≤_}
 use native.Mathlib.Omega.{arith}
-use borrow.Author.Tests.{eqb-true, eqb-false, ne-eqb}
+use borrow.Author.Tests.{eqb-true, ne-eqb}
 use lib.Dec.{eqb}
 use lib.ListN.{length, getD}
 use Rattle.lists.specs.Seq.{table}
-use Rattle.lists.proofs.Logic.{cases, decided, and-left, and-right}
+use Rattle.lists.proofs.Logic.{and-left, and-right}
 use Rattle.lists.proofs.Table.{table-length, table-at, table-by}
 use Rattle.plan.specs.Plan.{size}
-use Rattle.plan.specs.Check.{checkNumber, Accepted}
-use Rattle.plan.proofs.Main.{check-exact}
+use Rattle.plan.specs.Check.{fitNumber, Accepted}
+use Rattle.plan.proofs.FitLaws.{fit-none}
+use Rattle.plan.proofs.Main.{fit-exact}
 use Rattle.event.specs.Site.{own}
 use Rattle.central.specs.Mark.{markNumber}
 use Rattle.retention.specs.Record.{tableNumber, class, recordOf}
 use Rattle.simulation.specs.Simulation.{stateFits, markAt, endMarks}
-use Rattle.simulation.specs.Run.{markByte, fitNumber, recorded, recordNumber, recordByNumber, recordByInto, runNumber}
+use Rattle.simulation.specs.Run.{markByte, recorded, recordNumber, recordByNumber, recordByInto, runNumber}
 use Rattle.simulation.proofs.CodeLaws.{mark-byte}
-
--- no number: the plan is accepted and the lengths are right
-pub fit-told : (p : List ℕ) (fits : Bool) → fitNumber p fits ≡ 0 → Accepted p × (fits ≡ true)
-unfolding fitNumber
-fit-told p fits h = cases (decided (eqb (checkNumber p) 0))
-    (λ e. ((check-exact p) .0 (eqb-true (checkNumber p) 0 e), right fits (rw e at h)))
-    (λ e. absurd (eqb-false (checkNumber p) 0 e (rw e at h)))
-  where
-    right : (b : Bool) → _≡_ {A = ℕ} (cond (not b) 7 0) 0 → b ≡ true
-    right true z = refl
-    right false z = absurd (omega arith)
 
 marks-same : (p st : List ℕ) → table (λ v. markByte (getD st (v * size p + v) 0)) (size p) ≡ endMarks p (own p) st
 unfolding endMarks
@@ -56,7 +46,7 @@ module _ (p st m c : List ℕ) where
   module _ (zero : recordNumber p st m c ≡ 0) where
     tests : Accepted p × ((eqb (length st) (size p * size p) && eqb (length m) (size p) && eqb (length c) (size p)) ≡ true)
     unfolding recordNumber stateFits own
-    tests = fit-told p _ zero
+    tests = fit-exact p _ .none .0 zero
 
     pub record-lengths : (n : ℕ) → n ≡ size p → (n ≤ 160) × (length st ≡ n * n) × (length m ≡ n) × (length c ≡ n)
     record-lengths n e =
@@ -84,4 +74,4 @@ module _ (p bs st ns : List ℕ) where
 
   pub run-long : runNumber p bs st ns ≡ 0 → length ns ≡ length bs / 3
   unfolding runNumber
-  run-long z = eqb-true _ _ (and-right (stateFits p (own p) st && eqb (length bs % 3) 0) _ (fit-told p _ z .1))
+  run-long z = eqb-true _ _ (and-right (stateFits p (own p) st && eqb (length bs % 3) 0) _ (fit-none p _ z .1))

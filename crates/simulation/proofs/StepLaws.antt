@@ -11,7 +11,7 @@ use native.Mathlib.Omega.{arith}
 use Rattle.lists.proofs.Logic.{cases, and-right, parts, decided}
 use Rattle.plan.specs.Plan.{size, kind, inXor}
 use Rattle.plan.specs.Check.{Accepted}
-use Rattle.plan.proofs.Main.{check-exact}
+use Rattle.plan.proofs.Main.{fit-exact}
 use Rattle.event.specs.Event.{codeOf, isCode, at, eventOf, appliesBy, applies, known}
 use Rattle.event.specs.Site.{Layout, Housed, siteOf}
 use Rattle.event.specs.Valid.{invalid}
@@ -85,7 +85,7 @@ valid-is : (p : List ℕ) → Accepted p → (sited : Bool) (code node : ℕ) �
     eqb (invalid p true sited code node) 0 ≡ ((isCode code && applies p (eventOf code node)) && sited)
 unfolding invalid known applies
 valid-is p ok sited code node =
-    rw ((check-exact p) .1 ok) (go (isCode code) (ltb node (size p)) (appliesBy (codeOf code) (kind p node) (inXor p node)) sited)
+    rw (fit-exact p true .none .1 (ok, refl)) (go (isCode code) (ltb node (size p)) (appliesBy (codeOf code) (kind p node) (inXor p node)) sited)
   where
     go : (c b x l : Bool) → eqb (cond (not ((c && b) && l)) 8 (cond (not (b && x)) 9 0)) 0 ≡ ((c && (b && x)) && l)
     go false b x l = refl

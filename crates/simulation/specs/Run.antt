@@ -1,13 +1,13 @@
 -- The functions of this crate as values: one step, the record, and a list of steps in frames (rules G3, H7, I and J1), for the layout in which
 -- every node has its own row. Each is the answer and every lent byte afterwards. Definitions only.
 use mathlib.Core.Path.{_≡_}
-use mathlib.Core.Bool.{Bool, true, cond, _&&_, not}
+use mathlib.Core.Bool.{true, cond, _&&_, not}
 use mathlib.Core.List.{List, [], _∷_}
 use Prim.Native.Nat.{ℕ, zero, suc, _+_, _*_, _/_, _%_, _≤_, _<_}
 use lib.Dec.{eqb}
 use lib.ListN.{length, getD}
 use Rattle.plan.specs.Plan.{size}
-use Rattle.plan.specs.Check.{checkNumber}
+use Rattle.plan.specs.Check.{fitNumber}
 use Rattle.event.specs.Event.{eventOf}
 use Rattle.event.specs.Site.{own, siteOf}
 use Rattle.event.specs.Bit.{hasBit}
@@ -27,10 +27,6 @@ markByte b = cond (hasBit b 3) 3 (cond (hasBit b 4) 4 (cond (hasBit b 8) 5 (cond
 -- one step, as three numbers
 unfoldable pub simulateOf : List ℕ → ℕ → ℕ → ℕ → List ℕ → Reply
 simulateOf p code node site st = simulate p (own p) st (stepFrom code node site)
-
--- H1 to H7: 1 to 6, then 7 where a length is wrong, else 0
-unfoldable pub fitNumber : List ℕ → Bool → ℕ
-fitNumber p fits = cond (not (eqb (checkNumber p) 0)) (checkNumber p) (cond (not fits) 7 0)
 
 -- G3: the record by a table, into two buffers
 pub record Recorded : Type 0 where

@@ -11,7 +11,7 @@ ghost use Rattle.plan.specs.Plan.{size};
 ghost use Rattle.event.specs.Site.{own};
 ghost use Rattle.retention.specs.Record.{class};
 ghost use Rattle.simulation.specs.Simulation.{reply, happen, tell, replayFrom, numbersFrom};
-ghost use Rattle.simulation.specs.Run.{Placed, markByte, simulateOf, fitNumber, recorded, recordByInto, recordInto, stepsOf, ran, runOf};
+ghost use Rattle.simulation.specs.Run.{Placed, markByte, simulateOf, recorded, recordByInto, recordInto, stepsOf, ran, runOf};
 
 // What a step answers: its number, 0 passed; the event's site with 0, 10 and 11, else 0; the rule of an event that passed, else 0.
 pub struct Reply {
@@ -155,17 +155,6 @@ fn write_marks(n: usize, state: &[u8], marks: &mut [u8])
     }
 }
 
-// 1 to 6, then 7 where a length is wrong, else 0.
-fn fit(plan: &[u8], fits: bool) -> u8
-    ensures { λ r. ⌜ r ≡ fitNumber (now (plan .entry)) fits ⌝ }
-{
-    let number = plan::check(plan);
-    if number != 0 {
-        return number;
-    }
-    if fits { 0 } else { 7 }
-}
-
 // Every node's class by a table, one byte a node.
 fn write_classes(plan: &[u8], tab: &[u8], marks: &[u8], classes: &mut [u8])
     requires { ⌜ (size (now plan) ≤ 160) × (length (now classes) ≡ size (now plan)) ⌝ }
@@ -200,7 +189,7 @@ pub fn record_by(plan: &[u8], tab: &[u8], state: &[u8], marks: &mut [u8], classe
         return bad;
     }
     let n = plan::node_count(plan);
-    let number = fit(
+    let number = checker::fit(
         plan,
         record_fits(n, state.len(), marks.len(), classes.len()),
     );
@@ -263,7 +252,7 @@ pub fn run(plan: &[u8], steps: &[u8], state: &mut [u8], numbers: &mut [u8]) -> u
     ensures { λ r. ⌜ runOf (now (plan .entry)) (now (steps .entry)) (now (state .entry)) (now (numbers .entry)) ≡ ran r (now (state .exit)) (now (numbers .exit)) ⌝ }
 {
     let n = plan::node_count(plan);
-    let number = fit(plan, run_fits(n, state.len(), steps.len(), numbers.len()));
+    let number = checker::fit(plan, run_fits(n, state.len(), steps.len(), numbers.len()));
     if number != 0 {
         return number;
     }

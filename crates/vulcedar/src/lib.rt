@@ -4,7 +4,7 @@ ghost use mathlib.Core.Path.{_≡_};
 ghost use Prim.Native.Nat.{_+_, _*_, _≤_};
 ghost use Rattle.plan.specs.Check.{checkNumber};
 ghost use Rattle.rewrite.specs.Rewrite.{rewriteOf};
-ghost use Rattle.plan.specs.Depths.{depthsOf};
+ghost use Rattle.checker.specs.Depths.{depthsOf};
 ghost use Rattle.guard.specs.Rule.{ruleAnswer};
 ghost use Rattle.guard.specs.Written.{writeOf};
 ghost use Rattle.site.specs.Step.{stepOf, hearOf};
@@ -35,7 +35,7 @@ fn with_rule(number: u8, site: u8, rule: u8) -> u32
 pub extern "C" fn vulcedar_check(plan: &[u8]) -> u32
     ensures { λ r. ⌜ r ≡ result (checkNumber (now (plan .entry))) 0 0 ⌝ }
 {
-    packed(plan::check(plan), 0)
+    packed(checker::check(plan), 0)
 }
 
 #[no_mangle]
@@ -51,7 +51,7 @@ pub extern "C" fn vulcedar_check_depths(plan: &[u8], depths: &mut [u8]) -> u32
     ensures { λ r. ⌜ r ≡ result (depthsOf (now (plan .entry)) (now (depths .entry)) .number) 0 0 ⌝ }
     ensures { λ r. ⌜ now (depths .exit) ≡ depthsOf (now (plan .entry)) (now (depths .entry)) .depths ⌝ }
 {
-    packed(plan::check_depths(plan, depths), 0)
+    packed(checker::check_depths(plan, depths), 0)
 }
 
 #[no_mangle]

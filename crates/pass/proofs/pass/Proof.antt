@@ -1,44 +1,26 @@
--- The plan is checked, then the lengths; what passes both is ready. Assumes nothing.
-use mathlib.Core.Logic.{⊎-elim}
-use Rattle.pass.proofs.PassLaws.{into-check, into-lengths, into-ready}
+-- The tests; what passes them is ready. Assumes nothing.
+use Rattle.pass.proofs.PassLaws.{into-refused, into-ready}
 use borrow.Author.Needs.{needs}
-use borrow.Author.Tests.{eqb-true, eqb-false, not-true, not-false}
 use Rattle.pass.proofs.pass.Statement.{statement}
 use Rattle.pass.proofs.pass.Tie as tie
-
-check-requires : tie.Need-check-requires
-check-requires c κs = search needs
-
-returns : tie.Need-returns
-returns c = into-check _ _ _ _ (c .before .check .ensures) (c .if1 .taken)
 
 node-count-requires : tie.Need-node-count-requires
 node-count-requires c κs = search needs
 
-returns-2 : tie.Need-returns-2
-returns-2 c =
-    into-lengths _ _ _ _ (c .before .before .before .check .ensures) (c .before .before .if1 .left) _ (c .before .node-count .ensures)
-    (λ f g. ⊎-elim (λ w. w .taken f) (λ w. eqb-false _ _ (not-true _ (w .1 .taken)) g) (c .if2 .came))
+fit-requires : tie.Need-fit-requires
+fit-requires c κs = search needs
+
+returns : tie.Need-returns
+returns c = into-refused _ _ _ _ _ (c .before .before .node-count .ensures) (c .before .fit .ensures) (c .if1 .taken)
 
 settle-all-requires : tie.Need-settle-all-requires
-settle-all-requires c κs =
-    into-ready _ _ _ _ (c .before .before .before .before .before .check .ensures) (c .before .before .before .before .if1 .left) _ (c .before .before .before .node-count .ensures)
-    (c .before .before .if2 .left) (eqb-true _ _ (not-false _ (c .before .if3 .left)))
+settle-all-requires c κs = into-ready _ _ _ _ _ (c .before .before .before .node-count .ensures) (c .before .before .fit .ensures) (c .before .if1 .left)
 
 same-length : tie.Need-same-length
 same-length c = search needs
 
-returns-3 : tie.Need-returns-3
-returns-3 c = search needs
+returns-2 : tie.Need-returns-2
+returns-2 c = search needs
 
 pub pass-spec : {M : Type 1} → statement M
-pass-spec =
-    tie.close
-    (tie.spec
-    check-requires
-    returns
-    node-count-requires
-    returns-2
-    settle-all-requires
-    same-length
-    returns-3)
+pass-spec = tie.close (tie.spec node-count-requires fit-requires returns settle-all-requires same-length returns-2)

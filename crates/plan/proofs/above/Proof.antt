@@ -1,5 +1,5 @@
 use Rattle.plan.specs.Plan.{aboveByte}
-use borrow.Author.Tests.{ne-eqb, eq-eqb}
+use borrow.Author.Tests.{ne-eqb}
 use mathlib.Core.Path.{_∙_}
 use borrow.Author.Needs.{needs}
 use Rattle.plan.proofs.above.Statement.{statement}

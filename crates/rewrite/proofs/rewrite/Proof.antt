@@ -1,28 +1,23 @@
--- The check, then the length; what passes both is written. Assumes nothing.
+-- The tests; what passes them is written. Assumes nothing.
 use borrow.Author.Needs.{needs}
-use Rattle.rewrite.proofs.RewriteLaws.{rewrite-bad, rewrite-length, rewrite-done}
+use Rattle.rewrite.proofs.RewriteLaws.{rewrite-refused, rewrite-long, rewrite-done}
 use Rattle.rewrite.proofs.rewrite.Statement.{statement}
 use Rattle.rewrite.proofs.rewrite.Tie as tie
 
-check-requires : tie.Need-check-requires
-check-requires c κs = search needs
+fit-requires : tie.Need-fit-requires
+fit-requires c κs = search needs
 
 returns : tie.Need-returns
-returns c = rewrite-bad _ _ _ (c .before .check .ensures) (c .if1 .taken)
-
-returns-2 : tie.Need-returns-2
-returns-2 c = rewrite-length _ _ _ (c .before .before .check .ensures) (c .before .if1 .left) (c .if2 .taken)
+returns c = rewrite-refused _ _ _ (c .before .fit .ensures) (c .if1 .taken)
 
 write-requires : tie.Need-write-requires
-write-requires c κs = search needs
+write-requires c κs = rewrite-long _ (c .before .before .before .before .before .args .out .now) _ (c .before .before .fit .ensures) (c .before .if1 .left)
 
 same-length : tie.Need-same-length
 same-length c = search needs
 
-returns-3 : tie.Need-returns-3
-returns-3 c =
-    rewrite-done _ _ _ (c .before .before .before .before .before .before .check .ensures) (c .before .before .before .before .before .if1 .left) _
-    (c .before .before .before .before .if2 .left) (c .before .before .write .ensures)
+returns-2 : tie.Need-returns-2
+returns-2 c = let d = c .before .before .before .before in rewrite-done _ _ _ (d .before .fit .ensures) (d .if1 .left) _ (c .before .before .write .ensures)
 
 pub rewrite-spec : {M : Type 1} → statement M
-rewrite-spec = tie.close (tie.spec check-requires returns returns-2 write-requires same-length returns-3)
+rewrite-spec = tie.close (tie.spec fit-requires returns write-requires same-length returns-2)

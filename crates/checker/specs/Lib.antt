@@ -1,0 +1,2 @@
+-- Letters: p a plan's bytes, d the lent bytes, n a number.
+pub mod Depths
