@@ -18,7 +18,7 @@ use Rattle.plan.proofs.CheckLaws.{check-1}
 use Rattle.plan.proofs.Main.{check-exact}
 use Rattle.event.specs.Site.{own}
 use Rattle.retention.specs.Record.{commonTable, frameOk, tableOk, tableNumber, recordOf}
-use Rattle.simulation.specs.Simulation.{Step, zeros, replay, numbersFrom, endMarks}
+use Rattle.job.specs.Simulation.{Step, zeros, replay, numbersFrom, endMarks}
 use Rattle.simulation.specs.Run.{stepsOf}
 use Rattle.text.specs.Text.{lines, hasTable, bodyAt, body, planLines, stepLines, bodyFormed, wellFormed, tableBytes, planBytes, stepBytes}
 use Rattle.text.specs.Calls.{inFront, Printing, printing}

@@ -17,7 +17,7 @@ use Rattle.plan.proofs.FitLaws.{fit-right}
 use Rattle.plan.proofs.Main.{check-exact}
 use Rattle.event.specs.Site.{own}
 use Rattle.retention.specs.Record.{tableNumber, recordOf}
-use Rattle.simulation.specs.Simulation.{Step, simulate, stateFits, zeros, replay, numbersFrom, endMarks}
+use Rattle.job.specs.Simulation.{Step, simulate, stateFits, zeros, replay, numbersFrom, endMarks}
 use Rattle.script.specs.Script.{Zeros}
 use Rattle.lists.proofs.Parts.{part-length, Back}
 use Rattle.simulation.specs.Run.{Recorded, recorded, recordNumber, recordByNumber, recordByInto, stepsOf, stepsFrom, Ran, ran, runNumber, runOf}

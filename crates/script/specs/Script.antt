@@ -10,7 +10,7 @@ use Rattle.plan.specs.Plan.{size, kindByte}
 use Rattle.plan.specs.Check.{checkNumber}
 use Rattle.event.specs.Site.{own}
 use Rattle.retention.specs.Record.{commonTable, tableNumber, Record, recordOf}
-use Rattle.simulation.specs.Simulation.{Step, zeros, replay, numbersFrom, endMarks}
+use Rattle.job.specs.Simulation.{Step, zeros, replay, numbersFrom, endMarks}
 use Rattle.simulation.specs.Run.{stepsOf}
 use Rattle.text.specs.Hex.{hexLine}
 use Rattle.text.specs.Text.{hasTable, planLines, stepLines, bodyFormed, wellFormed, tableBytes, planBytes, stepBytes}

@@ -8,7 +8,7 @@ ghost use Rattle.plan.specs.Plan.{size};
 ghost use Rattle.plan.specs.Check.{checkNumber};
 ghost use Rattle.event.specs.Site.{own};
 ghost use Rattle.retention.specs.Record.{tableNumber, recordOf};
-ghost use Rattle.simulation.specs.Simulation.{endMarks};
+ghost use Rattle.job.specs.Simulation.{endMarks};
 ghost use Rattle.simulation.specs.Run.{stepsOf};
 ghost use Rattle.text.specs.Calls.{printing};
 ghost use Rattle.script.specs.Script.{numberLine, nodeLine, numberLines, nodeLines, planPrinted, rehearseInto, readNumber, Zeros};

@@ -1,14 +1,13 @@
--- What the functions of this crate use of specs/Simulation.antt: which part of the state a step touches, and each of its answers. Assumes nothing.
-use mathlib.Core.Path.{_≡_, refl, sym, ap, ap₂, _∙_}
-use mathlib.Core.Bool.{Bool, true, false, cond, not, _&&_}
+-- What the functions of this crate use of specs/Simulation.antt of the crate job: which part of the state a step touches, and each of its answers. Assumes nothing.
+use mathlib.Core.Path.{_≡_, refl, sym, ap, _∙_}
+use mathlib.Core.Bool.{Bool, true, false, cond, not}
 use mathlib.Core.List.{List, _++_}
 use Prim.Native.Nat.{ℕ, _+_, _-_, _*_, _/_, _%_, _≤_, _<_}
-use native.Mathlib.Nat.{mul-le-mul-right, suc-mul, mul-div-cancel, div-add-mod'}
+use native.Mathlib.Nat.{mul-div-cancel, div-add-mod'}
 use native.Mathlib.Omega.{arith}
 use borrow.Author.Tests.{eq-eqb, ne-eqb, eqb-true, eqb-false, le-leb, lt-ltb}
 use lib.Dec.{eqb, ltb}
-use lib.ListN.{length, getD, take, drop, set, length-take, length-drop, take-append-drop}
-use lib.Seq.{getD-take, getD-drop, take-set-le, take-set-lt, drop-set-lt, drop-set-add}
+use lib.ListN.{length, getD, take, drop, set}
 use Rattle.lists.proofs.Logic.{cases, decided, clash, and-join, same-bool}
 use Rattle.plan.specs.Plan.{size}
 use Rattle.event.specs.Event.{codeNumber, isCode, eventOf, known}
@@ -19,35 +18,18 @@ use Rattle.event.proofs.CodeLaws.{code-number}
 use Rattle.event.proofs.ValidLaws.{valid}
 use Rattle.event.proofs.HostLaws.{host-in}
 use Rattle.central.specs.Mark.{idle, running, offered, committed, failed, turned-down, markNumber}
-use Rattle.site.specs.Row.{heardIn, heard, hear}
+use Rattle.site.specs.Row.{heardIn, heard}
 use Rattle.site.specs.Verdict.{verdictNumber, verdictSite, refusalNumber, refusalSite, verdictRule}
 use Rattle.site.specs.Step.{Stepped, stepped, siteAt, stepInvalid, decide, stepOf}
 use Rattle.site.specs.declared.Verdict.{Verdict}
 use Rattle.site.proofs.StepLaws.{decide-site}
-use Rattle.simulation.specs.Simulation.{rowOf, withRow, event, Reply, reply, stateFits, eventBy, happen, tell, markBy, markAt}
+use Rattle.job.specs.Simulation.{rowOf, withRow, Reply, reply, stateFits, eventBy, happen, tell, markBy, markAt}
+use Rattle.job.proofs.StateLaws.{row-below, with-same, row-length, byte-at, row-hear}
 use Rattle.simulation.specs.Run.{Placed, markByte}
-
--- row q of n bytes ends where the next begins
-pub row-below : (n j k : ℕ) → j < k → j * n + n ≤ k * n
-row-below n j k h = rw (← suc-mul j n) (mul-le-mul-right n h)
-
--- a row put back changes nothing
-pub with-same : (p st : List ℕ) (q : ℕ) → withRow p st q (rowOf p st q) ≡ st
-unfolding withRow rowOf
-with-same p st q = ap (λ (l : List ℕ). take (q * size p) st ++ l) (take-append-drop (size p) (drop (q * size p) st)) ∙ take-append-drop (q * size p) st
 
 pub fits-told : (p st : List ℕ) → stateFits p (own p) st ≡ true → length st ≡ size p * size p
 unfolding stateFits own
 fits-told p st h = eqb-true (length st) (size p * size p) h
-
--- a site's row of a fitting state is one byte a node
-pub row-length : (p st : List ℕ) (q : ℕ) → stateFits p (own p) st ≡ true → q < size p → length (rowOf p st q) ≡ size p
-unfolding rowOf
-row-length p st q h l =
-    let e = fits-told p st h in
-    let r = row-below (size p) q (size p) l in
-    let d = length-drop (q * size p) st in
-    omega (arith, length-take (size p) (drop (q * size p) st))
 
 -- THE EVENT HAPPENS
 module _ (p st : List ℕ) (code node : ℕ) where
@@ -58,7 +40,7 @@ module _ (p st : List ℕ) (code node : ℕ) where
   module _ (q : ℕ) (there : q ≡ siteAt p code node) (fits : stateFits p (own p) st ≡ true) (inside : q < size p) where
     same-tests : stepInvalid p code node (rowOf p st q) ≡ invalid p (stateFits p (own p) st) true code node
     unfolding stepInvalid
-    same-tests = rw (fits, eq-eqb (length (rowOf p st q)) (size p) (row-length p st q fits inside))
+    same-tests = rw (fits, eq-eqb (length (rowOf p st q)) (size p) (row-length p st (size p) q (fits-told p st fits) inside))
 
     abbrev result : Stepped → Reply
     result s = reply (verdictNumber (s .verdict)) (verdictSite (s .verdict)) (verdictRule (s .verdict)) (withRow p st q (s .row))
@@ -82,28 +64,6 @@ module _ (p st : List ℕ) (code node : ℕ) where
     happen-stepped row v h = happens ∙ ap result h
 
 -- A MESSAGE
--- one byte of row q
-module _ (p st : List ℕ) (q v : ℕ) (node : v < size p) where
-  pub byte-at : getD (rowOf p st q) v 0 ≡ getD st (q * size p + v) 0
-  unfolding rowOf
-  byte-at = getD-take (size p) (drop (q * size p) st) v 0 node ∙ getD-drop (q * size p) st v 0
-
-  set-parts : (n a x : ℕ) → v < n → take a st ++ (set (take n (drop a st)) v x ++ drop n (drop a st)) ≡ set st (a + v) x
-  set-parts n a x h =
-      let s : List ℕ = set st (a + v) x in
-      let front : take n (drop a s) ≡ set (take n (drop a st)) v x = ap (λ (l : List ℕ). take n l) (drop-set-add a st v x) ∙ take-set-lt n (drop a st) v x h in
-      let back : drop n (drop a s) ≡ drop n (drop a st) = ap (λ (l : List ℕ). drop n l) (drop-set-add a st v x) ∙ drop-set-lt n (drop a st) v x h in
-      sym (sym (take-append-drop a s) ∙ ap₂ _++_ (take-set-le a st (a + v) x (omega arith)) (sym (take-append-drop n (drop a s)) ∙ ap₂ _++_ front back))
-
-  -- a byte of row q set is a byte of the state set
-  pub row-set : (x : ℕ) → withRow p st q (set (rowOf p st q) v x) ≡ set st (q * size p + v) x
-  unfolding withRow rowOf
-  row-set x = set-parts (size p) (q * size p) x node
-
-  pub row-hear : (code : ℕ) → withRow p st q (hear (rowOf p st q) code v) ≡ set st (q * size p + v) (withBit (getD st (q * size p + v) 0) code)
-  unfolding hear
-  row-hear code = rw byte-at (row-set (withBit (getD st (q * size p + v) 0) code))
-
 -- a spot in row h of n rows of n bytes
 pub spot-in : (st : List ℕ) (n h v : ℕ) → length st ≡ n * n → h < n → v < n → h * n + v < length st
 spot-in st n h v e a b = let r = row-below n h n a in omega arith

@@ -2,10 +2,3 @@
 pub mod CodeLaws
 pub mod RunLaws
 pub mod RecordLaws
-pub mod View
-pub mod StepLaws
-pub mod Bridge
-pub mod Marks
-pub mod Claimed
-pub mod Main
-pub mod Cases

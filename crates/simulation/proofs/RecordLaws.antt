@@ -17,7 +17,7 @@ use Rattle.plan.proofs.Main.{fit-exact}
 use Rattle.event.specs.Site.{own}
 use Rattle.central.specs.Mark.{markNumber}
 use Rattle.retention.specs.Record.{tableNumber, class, recordOf}
-use Rattle.simulation.specs.Simulation.{stateFits, markAt, endMarks}
+use Rattle.job.specs.Simulation.{stateFits, markAt, endMarks}
 use Rattle.simulation.specs.Run.{markByte, recorded, recordNumber, recordByNumber, recordByInto, runNumber}
 use Rattle.simulation.proofs.CodeLaws.{mark-byte}
 

@@ -1,17 +1,15 @@
 -- The loop that runs frames one after another: the rest says what the whole says. Assumes nothing.
 use mathlib.Core.Path.{_≡_, refl, sym, ap, _∙_}
-use mathlib.Core.Bool.{Bool, true, false, cond, not}
 use mathlib.Core.List.{List, [], _∷_, _++_, append-assoc, append-nil}
-use Prim.Native.Nat.{ℕ, zero, suc, _+_, _*_, _-_, _/_, _≤_, _<_}
+use Prim.Native.Nat.{ℕ, suc, _+_, _*_, _-_, _/_, _≤_, _<_}
 use native.Mathlib.Numerals.{add-one}
 use native.Mathlib.Omega.{arith}
-use borrow.Author.Tests.{eq-eqb, ne-eqb}
-use lib.Dec.{eqb}
+use borrow.Author.Tests.{ne-eqb}
 use lib.ListN.{length, getD, take, set, length-set}
 use lib.Seq.{take-suc-set, take-length}
 use Rattle.event.specs.Site.{own}
-use Rattle.simulation.specs.Simulation.{Step, event, message, stepFrom, Reply, reply, happen, tell, simulate, replayFrom, numbersFrom}
-use Rattle.simulation.specs.Run.{simulateOf, stepsFrom, stepsOf, Ran, ran, runNumber, runOf}
+use Rattle.job.specs.Simulation.{Step, stepFrom, Reply, reply, happen, tell, simulate, replayFrom, numbersFrom}
+use Rattle.simulation.specs.Run.{simulateOf, stepsFrom, stepsOf, ran, runNumber, runOf}
 
 -- three numbers as a step
 module _ (p : List ℕ) (code node site : ℕ) (st : List ℕ) where

@@ -1,4 +1,2 @@
--- Letters: p a plan, lay a layout, st a state, q r sites, t a step, ts us lists of steps, e f events, es their list, v a node, a answers.
-pub mod Simulation
-pub mod Claim
+-- Letters: p a plan, st a state, q a site, b a byte, bs frames of steps, ns their numbers, tab a table of classes, m c the lent marks and classes.
 pub mod Run

@@ -13,7 +13,7 @@ use Rattle.event.specs.Site.{own, siteOf}
 use Rattle.event.specs.Bit.{hasBit}
 use Rattle.event.specs.Valid.{invalid}
 use Rattle.retention.specs.Record.{commonTable, tableNumber, Record, recordOf}
-use Rattle.simulation.specs.Simulation.{Step, stepFrom, Reply, simulate, stateFits, replayFrom, numbersFrom, endMarks}
+use Rattle.job.specs.Simulation.{Step, stepFrom, Reply, simulate, stateFits, replayFrom, numbersFrom, endMarks}
 
 -- q is the row of the event's site in a state of len bytes; a q that is no row of the plan says that the call is not valid
 pub record Placed (p : List ℕ) (len code node q : ℕ) : Type 0 where

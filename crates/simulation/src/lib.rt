@@ -1,6 +1,6 @@
 // The simulation of a whole job: all sites' rows in one lent state, steps that happen or are told, the record, and lists of steps in frames.
-// What a step means is specs/Simulation.antt, what each function answers and leaves specs/Run.antt, what holds of every list of steps
-// specs/Claim.antt. No public function has a `requires`.
+// What each function answers and leaves is specs/Run.antt; what a step means, and what holds of every list of steps, is the crate job's. No
+// public function has a `requires`.
 ghost use mathlib.Core.Path.{_≡_};
 ghost use mathlib.Core.Bool.{_&&_};
 ghost use Prim.Native.Nat.{ℕ, _+_, _*_, _/_, _%_, _<_, _≤_};
@@ -10,7 +10,7 @@ ghost use Rattle.lists.specs.Seq.{table};
 ghost use Rattle.plan.specs.Plan.{size};
 ghost use Rattle.event.specs.Site.{own};
 ghost use Rattle.retention.specs.Record.{class};
-ghost use Rattle.simulation.specs.Simulation.{reply, happen, tell, replayFrom, numbersFrom};
+ghost use Rattle.job.specs.Simulation.{reply, happen, tell, replayFrom, numbersFrom};
 ghost use Rattle.simulation.specs.Run.{Placed, markByte, simulateOf, recorded, recordByInto, recordInto, stepsOf, ran, runOf};
 
 // What a step answers: its number, 0 passed; the event's site with 0, 10 and 11, else 0; the rule of an event that passed, else 0.

@@ -11,7 +11,7 @@ use Rattle.event.specs.Site.{hostOf, own}
 use Rattle.event.specs.Valid.{invalid, Valid}
 use Rattle.event.proofs.ValidLaws.{valid}
 use Rattle.event.proofs.HostLaws.{host-in}
-use Rattle.simulation.specs.Simulation.{stateFits}
+use Rattle.job.specs.Simulation.{stateFits}
 use Rattle.simulation.proofs.CodeLaws.{row-spot, tell-refused, tell-false, tell-done}
 use borrow.Author.Needs.{needs}
 use Rattle.simulation.proofs.tell.Statement.{statement}

@@ -10,7 +10,7 @@ use Rattle.central.specs.Mark.{Mark, idle, running, offered, committed, failed,
 use Rattle.central.specs.Central.{Central, fresh, reaches}
 use Rattle.runs.proofs.Said.{saidBy, said, history}
 use Rattle.runs.proofs.Safe.{InStep, own-row}
-use Rattle.simulation.specs.Simulation.{markBy}
+use Rattle.job.specs.Simulation.{markBy}
 
 mark-said : (p : List ℕ) (s : Central) (v : ℕ) → markBy (said p s) v ≡ s .mark v
 unfolding markBy said saidBy isMark markNumber

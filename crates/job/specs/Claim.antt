@@ -1,5 +1,6 @@
 -- THE MAIN CLAIM: what the simulation promises (rules I), demand 3 whole, and demand 2 as the simulation meets it. Each field stands under
--- its rule. All of it is about the bytes that the functions of this crate leave, and about any layout of rows. Definitions only.
+-- its rule. All of it is about the bytes that steps leave, which are those that the crate simulation promises, and about any layout of rows.
+-- Definitions only.
 use mathlib.Core.Path.{_≡_}
 use mathlib.Core.Bool.{true, false}
 use mathlib.Core.List.{List, _++_}
@@ -18,7 +19,7 @@ use Rattle.site.specs.Row.{heard}
 use Rattle.site.specs.Verdict.{verdictNumber}
 use Rattle.site.specs.Step.{stepOf}
 use Rattle.runs.specs.Agree.{Bytes, Agrees}
-use Rattle.simulation.specs.Simulation.{rowOf, Step, message, simulate, replayFrom, passedFrom, replay, passed, heardAt, markAt, endMarks}
+use Rattle.job.specs.Simulation.{rowOf, Step, message, simulate, replayFrom, passedFrom, replay, passed, heardAt, markAt, endMarks}
 
 -- the row where e happens, after the steps ts
 unfoldable pub rowAt : List ℕ → Layout → List Step → Event → List ℕ

@@ -17,9 +17,9 @@ use Rattle.site.specs.Row.{hear}
 use Rattle.runs.specs.Agree.{Bytes}
 use Rattle.runs.proofs.Net.{Move, occur, relay, learn, passes, relayed, moved, passedBy, passedIn, movedAll}
 use Rattle.runs.proofs.Full.{passedIn-append, moved-append, site-in}
-use Rattle.simulation.specs.Simulation.{rowOf, withRow, Step, event, message, simulate, replayFrom, passedOf, passedFrom, heardOf, heardFrom}
-use Rattle.simulation.proofs.View.{view, hear-bytes, view-hear}
-use Rattle.simulation.proofs.StepLaws.{happen-leaves, tell-leaves, event-passes, message-passes}
+use Rattle.job.specs.Simulation.{rowOf, withRow, Step, event, message, simulate, replayFrom, passedOf, passedFrom, heardOf, heardFrom}
+use Rattle.job.proofs.View.{view, hear-bytes, view-hear}
+use Rattle.job.proofs.StepLaws.{happen-leaves, tell-leaves, event-passes, message-passes}
 
 -- a step whose code is none is no move
 unfoldable pub decode : Step → List Move

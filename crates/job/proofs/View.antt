@@ -17,8 +17,8 @@ use Rattle.event.proofs.BitLaws.{with-bit, with-small, no-bit}
 use Rattle.site.specs.Row.{heardIn, heard, hear}
 use Rattle.runs.specs.Agree.{Bytes}
 use Rattle.runs.proofs.Net.{learn, silence}
-use Rattle.simulation.specs.Simulation.{rowOf, withRow, zeros}
-use Rattle.simulation.proofs.CodeLaws.{row-below, byte-at, row-hear}
+use Rattle.job.specs.Simulation.{rowOf, withRow, zeros}
+use Rattle.job.proofs.StateLaws.{row-below, byte-at, row-hear}
 
 abbrev pub view : List ℕ → List ℕ → ℕ → Event → Bool
 view p st q = heard (rowOf p st q)

@@ -5,9 +5,8 @@ use mathlib.Core.Bool.{Bool, true, false, not, _&&_, cond, and-assoc, and-true}
 use mathlib.Core.List.{List}
 use Prim.Native.Nat.{ℕ, _*_, _<_}
 use lib.Dec.{eqb, ltb}
-use lib.ListN.{drop, length, length-drop, length-take}
+use lib.ListN.{length}
 use borrow.Author.Tests.{eq-eqb, ne-eqb}
-use native.Mathlib.Omega.{arith}
 use Rattle.lists.proofs.Logic.{cases, and-right, parts, decided}
 use Rattle.plan.specs.Plan.{size, kind, inXor}
 use Rattle.plan.specs.Check.{Accepted}
@@ -23,9 +22,9 @@ use Rattle.site.proofs.RowLaws.{hear-again}
 use Rattle.site.proofs.StepLaws.{step-passes, step-leaves}
 use Rattle.runs.proofs.Net.{passes, relayed}
 use Rattle.runs.proofs.Full.{site-in}
-use Rattle.simulation.specs.Simulation.{rowOf, withRow, Step, event, message, stateFits, eventBy, happen, tell, simulate}
-use Rattle.simulation.proofs.CodeLaws.{row-below, with-same}
-use Rattle.simulation.proofs.View.{view}
+use Rattle.job.specs.Simulation.{rowOf, withRow, Step, event, message, stateFits, eventBy, happen, tell, simulate}
+use Rattle.job.proofs.StateLaws.{with-same, row-length}
+use Rattle.job.proofs.View.{view}
 
 module _ (p : List ℕ) (lay : Layout) (st : List ℕ) (code node : ℕ) where
   abbrev here : List ℕ
@@ -104,17 +103,10 @@ module _ (p : List ℕ) (ok : Accepted p) (lay : Layout) (housed : Housed p lay)
   unfolding stateFits
   fitting = eq-eqb (length st) (lay .rows * size p) long
 
-  row-long : (q : ℕ) → q < lay .rows → length (rowOf p st q) ≡ size p
-  unfolding rowOf
-  row-long q l =
-      let r = row-below (size p) q (lay .rows) l in
-      let d = length-drop (q * size p) st in
-      omega (arith, length-take (size p) (drop (q * size p) st))
-
   -- the site's own tests of a row are those of the state
   pub step-valid : (q : ℕ) → q < lay .rows → eqb (stepInvalid p code node (rowOf p st q)) 0 ≡ (isCode code && applies p (eventOf code node))
   unfolding stepInvalid
-  step-valid q l = rw (eq-eqb (length (rowOf p st q)) (size p) (row-long q l)) (valid-is p ok true code node ∙ and-true _)
+  step-valid q l = rw (eq-eqb (length (rowOf p st q)) (size p) (row-length p st (lay .rows) q long l)) (valid-is p ok true code node ∙ and-true _)
 
   -- an event passes if it is one, and it passes by bars and guard at its site
   pub event-passes : eqb (happen p lay st code node .number) 0 ≡ (isCode code && passes p lay (view p st) (eventOf code node))

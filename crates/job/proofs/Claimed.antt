@@ -27,13 +27,13 @@ use Rattle.runs.proofs.Net.{passedIn, movedAll, silence}
 use Rattle.runs.proofs.Safe.{InStep, safe}
 use Rattle.runs.proofs.Full.{site-in, full}
 use Rattle.runs.proofs.Main.{guards-follow-rule, five-events, runs-end, stuck-is-pass, answers-agree}
-use Rattle.simulation.specs.Simulation.{rowOf, Step, simulate, replayFrom, passedFrom, heardFrom, zeros, replay, passed, heardAt, markAt, endMarks}
-use Rattle.simulation.specs.Claim.{rowAt, centralAfter, Informed, Over, Claim}
-use Rattle.simulation.proofs.View.{view, zero-bytes, zero-view}
+use Rattle.job.specs.Simulation.{rowOf, Step, simulate, replayFrom, passedFrom, heardFrom, zeros, replay, passed, heardAt, markAt, endMarks}
+use Rattle.job.specs.Claim.{rowAt, centralAfter, Informed, Over, Claim}
+use Rattle.job.proofs.View.{view, zero-bytes, zero-view}
 use Rattle.site.proofs.StepLaws.{step-passes}
-use Rattle.simulation.proofs.StepLaws.{refused-leaves, repeat-leaves, step-valid}
-use Rattle.simulation.proofs.Bridge.{decodeAll, stepOfMove, event-back, moves-back, DidAll, did-all}
-use Rattle.simulation.proofs.Marks.{mark-by-row}
+use Rattle.job.proofs.StepLaws.{refused-leaves, repeat-leaves, step-valid}
+use Rattle.job.proofs.Bridge.{decodeAll, stepOfMove, event-back, moves-back, DidAll, did-all}
+use Rattle.job.proofs.Marks.{mark-by-row}
 
 -- a list goes on where its prefix ends
 replay-append : (p : List ℕ) (lay : Layout) (st : List ℕ) (ts us : List Step) → replayFrom p lay st (ts ++ us) ≡ replayFrom p lay (replayFrom p lay st ts) us
