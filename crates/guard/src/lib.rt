@@ -6,8 +6,13 @@ mod put;
 mod table;
 
 ghost use mathlib.Core.Path.{_≡_};
+ghost use Prim.Native.Nat.{_≤_};
+ghost use Rattle.plan.specs.Check.{Accepted};
+ghost use Rattle.event.specs.Event.{eventOf};
+ghost use Rattle.guard.specs.Guard.{guard};
+ghost use Rattle.guard.specs.Bytes.{encode};
 ghost use Rattle.guard.specs.Rule.{named, ruleAnswer};
-ghost use Rattle.guard.specs.Written.{filled, writeOf};
+ghost use Rattle.guard.specs.Written.{filled, fitted, writeOf};
 
 // A written guard: its length, and the rule behind it.
 pub struct WrittenGuard {
@@ -27,7 +32,21 @@ pub struct Named {
     pub rule: u8,
 }
 
-// The guard of an event at the front of buf; the bytes behind it stay.
+// A guard at the front of a buffer that may be too short for it, and then stays: written aside, and copied.
+fn write_short(plan: &[u8], code: u8, v: u8, rule: u8, buf: &mut [u8]) -> Written
+    requires { ⌜ Accepted (now plan) × (1 ≤ code) × (code ≤ 8) ⌝ }
+    ensures { λ r. ⌜ fitted (encode (guard (now (plan .entry)) (eventOf code v))) rule (now (buf .entry)) ≡ filled (now (buf .exit)) r ⌝ }
+{
+    let mut local = [0u8; 290];
+    let length = fill::fill(plan, code, v, &mut local);
+    if buf.len() < length {
+        return Written::Refused(7);
+    }
+    bytes::copy(&local[..length], buf);
+    Written::Done(WrittenGuard { length, rule })
+}
+
+// The guard of an event at the front of buf; the bytes behind it stay. No guard has more than 290 bytes.
 pub fn write_guard(plan: &[u8], code: u32, node: u32, buf: &mut [u8]) -> Written
     ensures { λ r. ⌜ writeOf (now (plan .entry)) code node (now (buf .entry)) ≡ filled (now (buf .exit)) r ⌝ }
 {
@@ -35,16 +54,12 @@ pub fn write_guard(plan: &[u8], code: u32, node: u32, buf: &mut [u8]) -> Written
     if n != 0 {
         return Written::Refused(n);
     }
-    let mut local = [0u8; 290];
-    let long = fill::fill(plan, code as u8, node as u8, &mut local);
-    if buf.len() < long {
-        return Written::Refused(7);
+    let rule = digits::rule_byte(plan, code as u8, node as u8);
+    if buf.len() < 290 {
+        return write_short(plan, code as u8, node as u8, rule, buf);
     }
-    bytes::copy(&local[..long], buf);
-    Written::Done(WrittenGuard {
-        length: long,
-        rule: digits::rule_byte(plan, code as u8, node as u8),
-    })
+    let length = fill::fill(plan, code as u8, node as u8, buf);
+    Written::Done(WrittenGuard { length, rule })
 }
 
 // The rule behind the guard of an event.
