@@ -1,12 +1,13 @@
 // The guard of an event as bytes: what an event has to wait for at its site. What a guard is stands in specs/Guard.antt, its bytes in
-// specs/Bytes.antt, what the writer answers and leaves in specs/Written.antt. The public function has no `requires`: bad input is refused.
-mod digits;
+// specs/Bytes.antt, what the writer answers and leaves in specs/Written.antt. The tables by which it is made are in `table` and `whom`, the rule
+// behind it in `digits`. No public function has a `requires`: bad input is refused.
+pub mod digits;
 mod fill;
 mod put;
-mod table;
+pub mod table;
+pub mod whom;
 
 ghost use mathlib.Core.Path.{_≡_};
-ghost use Prim.Native.Nat.{_≤_};
 ghost use Rattle.plan.specs.Check.{Accepted};
 ghost use Rattle.event.specs.Event.{eventOf};
 ghost use Rattle.guard.specs.Guard.{guard};
@@ -34,7 +35,7 @@ pub struct Named {
 
 // A guard at the front of a buffer that may be too short for it, and then stays: written aside, and copied.
 fn write_short(plan: &[u8], code: u8, v: u8, rule: u8, buf: &mut [u8]) -> Written
-    requires { ⌜ Accepted (now plan) × (1 ≤ code) × (code ≤ 8) ⌝ }
+    requires { ⌜ Accepted (now plan) ⌝ }
     ensures { λ r. ⌜ fitted (encode (guard (now (plan .entry)) (eventOf code v))) rule (now (buf .entry)) ≡ filled (now (buf .exit)) r ⌝ }
 {
     let mut local = [0u8; 290];

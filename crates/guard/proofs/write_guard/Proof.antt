@@ -41,7 +41,7 @@ cast-rule-byte-2 : tie.Need-cast-rule-byte-2
 cast-rule-byte-2 c = let v = ok c in omega (arith, v .plan .few)
 
 rule-byte-requires : tie.Need-rule-byte-requires
-rule-byte-requires c κs = let v = ok c in ((v .plan, v .low, v .high), v .node-in)
+rule-byte-requires c κs = let v = ok c in (v .plan, v .node-in)
 
 cast-write-short : tie.Need-cast-write-short
 cast-write-short c = let v = ok (c .before .before) in omega arith
@@ -50,7 +50,7 @@ cast-write-short-2 : tie.Need-cast-write-short-2
 cast-write-short-2 c = let v = ok (c .before .before) in omega (arith, v .plan .few)
 
 write-short-requires : tie.Need-write-short-requires
-write-short-requires c κs = let v = ok (c .before .before .before) in (v .plan, v .low, v .high)
+write-short-requires c κs = ok (c .before .before .before) .plan
 
 same-length : tie.Need-same-length
 same-length c = search needs
@@ -66,7 +66,7 @@ cast-fill-2 : tie.Need-cast-fill-2
 cast-fill-2 c = let v = ok (c .before .before) in omega (arith, v .plan .few)
 
 fill-requires : tie.Need-fill-requires
-fill-requires c κs = let v = ok (c .before .before .before) in ((v .plan, v .low, v .high), omega (arith, c .before .if2 .left))
+fill-requires c κs = (ok (c .before .before .before) .plan, omega (arith, c .before .if2 .left))
 
 same-length-2 : tie.Need-same-length-2
 same-length-2 c = search needs

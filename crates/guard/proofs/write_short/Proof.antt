@@ -14,7 +14,7 @@ use Rattle.guard.proofs.write_short.Statement.{statement}
 use Rattle.guard.proofs.write_short.Tie as tie
 
 short : (c : tie.After-fill) → let a = c .before .before .before .before .args in length (encode (guard (a .plan .now) (eventOf (a .code) (a .v)))) ≤ 290
-short c = guard-short _ (c .before .before .before .before .pre .0) _
+short c = guard-short _ (c .before .before .before .before .pre) _
 
 slice-aggregate-fill : tie.Need-slice-aggregate-fill
 slice-aggregate-fill c = refl
