@@ -193,7 +193,7 @@ pub speaks-bytes : (p : List ℕ) (code : Code) (v : ℕ) {k a : ℕ} {b : Bool}
 unfolding kind
 speaks-bytes p code v ek ea h = rw (above-byte p v, ← ek, ← ea) h
 
-near-none : (code : Code) (v : ℕ) → v ≡ near code v []
+pub near-none : (code : Code) (v : ℕ) → v ≡ near code v []
 unfolding near beforeIn lastOr
 near-none start v = refl
 near-none offer v = refl

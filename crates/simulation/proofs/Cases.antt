@@ -12,7 +12,7 @@ use Rattle.event.specs.Valid.{invalid}
 use Rattle.guard.specs.Guard.{beforeIn, isFirst, startBy, finishBy, abortBy, finishing, aborting, guardBy, guard, holds, barsBy, bars, barred}
 use Rattle.central.specs.Mark.{markNumber}
 use Rattle.pass.specs.Record.{commonTable, classOf, aboveWithin, nodesAbove, fell, countsAbove, countsAs, class, Record, recordOf}
-use Rattle.site.specs.Row.{heardIn, heard, hear}
+use Rattle.row.specs.Row.{heardIn, heard, hear}
 use Rattle.site.specs.Verdict.{refusalNumber, verdictNumber}
 use Rattle.site.specs.Step.{stepInvalid, decide, stepOf}
 use Rattle.simulation.specs.Simulation.{rowOf, withRow, Step, stepFrom, stateFits, eventBy, happen, tell, simulate, replayFrom, numbersFrom, zeros, replay, markBy, markAt, endMarks}

@@ -19,7 +19,7 @@ use Rattle.event.proofs.CodeLaws.{code-number}
 use Rattle.event.proofs.ValidLaws.{valid}
 use Rattle.event.proofs.HostLaws.{host-in}
 use Rattle.central.specs.Mark.{idle, running, offered, committed, failed, turned-down, markNumber}
-use Rattle.site.specs.Row.{heardIn, heard, hear}
+use Rattle.row.specs.Row.{heardIn, heard, hear}
 use Rattle.site.specs.Verdict.{verdictNumber, verdictSite, refusalNumber, refusalSite, verdictRule}
 use Rattle.site.specs.Step.{Stepped, stepped, siteAt, stepInvalid, decide, stepOf}
 use Rattle.site.specs.declared.Verdict.{Verdict}
