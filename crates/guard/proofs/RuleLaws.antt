@@ -15,7 +15,8 @@ use Rattle.plan.proofs.KindLaws.{kind-task, above-byte, is-kind}
 use Rattle.plan.proofs.AcceptedLaws.{parent-in, parent-block}
 use Rattle.event.specs.Event.{Code, start, offer, commit, abort, answered-yes, answered-no, pick, down, codeNumber, codeOf, isCode, Event, at, eventOf, appliesBy, applies}
 use Rattle.event.specs.Valid.{invalid}
-use Rattle.event.proofs.CodeLaws.{code-number}
+use Rattle.event.proofs.CodeLaws.{code-number, code-down}
+use Rattle.guard.proofs.Between.{not-between}
 use Rattle.guard.specs.Rule.{ruleKind, isPicked, ruleByte, ruleBytes, RuleClosed, named, ruleAnswer}
 
 -- by the code's number
@@ -151,6 +152,17 @@ rule-closed p e a h =
     let t = appliesBy (e .code) (kind p (e .node)) (inXor p (e .node)) in
     closed a (ltb-true (e .node) (size p) (and-left (ltb (e .node) (size p)) t h)) (e .code) (and-right (ltb (e .node) (size p)) t h)
 
+number-high : (c : Code) → codeNumber c ≤ 8
+unfolding codeNumber
+number-high start = omega arith
+number-high offer = omega arith
+number-high commit = omega arith
+number-high abort = omega arith
+number-high answered-yes = omega arith
+number-high answered-no = omega arith
+number-high pick = omega arith
+number-high down = omega arith
+
 -- the arms of kind_named, for the code of a number
 module _ (p : List ℕ) (v n : ℕ) (low : 1 ≤ n) (high : n ≤ 8) where
   number : codeNumber (codeOf n) ≡ n
@@ -178,6 +190,17 @@ module _ (p : List ℕ) (v n : ℕ) (low : 1 ≤ n) (high : n ≤ 8) where
   pub rule-plain : (eqb n 3 && eqb (aboveByte p v) 5) ≡ false → 16 * ruleKind p (codeOf n) v + n ≡ ruleByte p (eventOf n v)
   unfolding isPicked
   rule-plain h = sym (rule-digits p (eventOf n v) (rw (number, in-xor p v) h) ∙ rw number)
+
+-- what is no code is read as the last one
+pub read-last : (n : ℕ) → (leb 1 n && leb n 7) ≡ false → codeOf 8 ≡ codeOf n
+unfolding codeOf
+read-last n h = sym (code-down n (not-between 1 7 n h))
+
+-- and the number is a byte
+pub rule-small : {p : List ℕ} → Accepted p → {v : ℕ} → v < size p → (n : ℕ) → ruleByte p (eventOf n v) < 256
+rule-small {p} a {v} l n = cases (decided (isPicked p (eventOf n v)))
+    (λ e. omega (arith, rule-picked p (eventOf n v) e))
+    (λ e. omega (arith, rule-digits p (eventOf n v) e, named-high a l (codeOf n), number-high (codeOf n)))
 
 -- the answers of `rule`
 module _ (p : List ℕ) (code node : ℕ) {n : ℕ} (e : n ≡ invalid p true true code node) where

@@ -21,6 +21,7 @@ use Rattle.guard.specs.Written.{Filled, filled, written, fitted, writeOf
 use Rattle.guard.specs.declared.WrittenGuard.{WrittenGuard}
 use Rattle.guard.specs.declared.Written.{Written}
 use Rattle.guard.specs.declared.Written.the-variants.{Done, Refused}
+use Rattle.lists.proofs.PutLaws.{put-front}
 use Rattle.guard.proofs.PutLaws.{front}
 use Rattle.guard.proofs.Short.{guard-short}
 
@@ -37,19 +38,24 @@ module _ (p : List ℕ) (code node : ℕ) (b : List ℕ) where
   unfolding writeOf
   write-invalid h = rw (ne-eqb (invalid p true true code node) 0 h)
 
-  pub write-valid : invalid p true true code node ≡ 0 → writeOf p code node b ≡ fitted (encode (guard p (eventOf code node))) (ruleByte p (eventOf code node)) b
+  pub write-valid : {r : ℕ} → r ≡ ruleByte p (eventOf code node) → invalid p true true code node ≡ 0 → writeOf p code node b ≡ fitted (encode (guard p (eventOf code node))) r b
   unfolding writeOf
-  write-valid h = rw (eq-eqb (invalid p true true code node) 0 h)
+  write-valid e h = rw (eq-eqb (invalid p true true code node) 0 h, e)
+
+-- x, written straight into a buffer with room for it
+pub straight : (x b : List ℕ) {out : List ℕ} {n r : ℕ} → Put x b 0 out n → length x ≤ length b → fitted x r b ≡ filled out (Done (written n r))
+straight x b {out = out} {n = n} {r = k} h l =
+    fitted-done x k b l ∙ ap (λ y. filled y (Done (written (length x) k))) (sym (h .held ∙ put-front x b l))
+    ∙ ap (λ i. filled out (Done (written i k))) (sym (h .place ∙ zero-add (length x)))
 
 -- x, copied from a list that has it at its front
-pub copied : (b : List ℕ) {x z src out : List ℕ} {n m r r′ : ℕ} → Put x z 0 src n → length x ≤ length z → m ≡ length (take n src) → out ≡ take m (take n src) ++ drop m b
-    → r′ ≡ r → filled (x ++ drop (length x) b) (Done (written (length x) r)) ≡ filled out (Done (written n r′))
-copied b {x = x} {src = src} {out = out} {n = n} {m = m} {r = k} {r′ = k′} h l e o f =
+pub copied : (b : List ℕ) {x z src out : List ℕ} {n m r : ℕ} → Put x z 0 src n → length x ≤ length z → m ≡ length (take n src) → out ≡ take m (take n src) ++ drop m b
+    → filled (x ++ drop (length x) b) (Done (written (length x) r)) ≡ filled out (Done (written n r))
+copied b {x = x} {src = src} {out = out} {n = n} {m = m} {r = k} h l e o =
     let q : take n src ≡ x = front h l in
     let r : m ≡ length x = e ∙ ap length q in
     let s : out ≡ x ++ drop (length x) b = o ∙ ap (λ y. take m y ++ drop m b) q ∙ ap (λ k. take k x ++ drop k b) r ∙ ap (λ y. y ++ drop (length x) b) (take-length x) in
     ap (λ y. filled y (Done (written (length x) k))) (sym s) ∙ ap (λ i. filled out (Done (written i k))) (sym (h .place ∙ zero-add (length x)))
-    ∙ ap (λ i. filled out (Done (written n i))) (sym f)
 
 -- the writer wrote: the guard stands at the front of b, with its length and its rule
 pub record DoneTold (p : List ℕ) (code node : ℕ) (b b′ : List ℕ) (g : WrittenGuard) : Type 0 where
@@ -79,7 +85,7 @@ module _ (p : List ℕ) (code node : ℕ) (b b′ : List ℕ) where
   pub write-done : (g : WrittenGuard) → writeOf p code node b ≡ filled b′ (Done g) → DoneTold p code node b b′ g
   write-done g h = cases (decided (eqb (invalid p true true code node) 0))
       (λ e. let z = eqb-true _ _ e in
-      let q = sym (write-valid p code node b z) ∙ h in
+      let q = sym (write-valid p code node b refl z) ∙ h in
       cases (decided (leb (length (encode (guard p (eventOf code node)))) (length b)))
       (λ f. let r = same-done _ b′ _ g (sym (fitted-done _ _ b (leb-true _ _ f)) ∙ q) in
       record { valid = valid p true true code node z; buffer = r .0; long = ap (λ w. w .length) (r .1); rule = ap (λ w. w .rule) (r .1) })
@@ -91,6 +97,6 @@ module _ (p : List ℕ) (code node : ℕ) (b b′ : List ℕ) where
   write-refused n h l = cases (decided (eqb (invalid p true true code node) 0))
       (λ e. let z = eqb-true _ _ e in
       let s = guard-short p (valid p true true code node z .plan) (eventOf code node) in
-      absurd (done-refused _ b′ 0 n (sym (write-valid p code node b z ∙ fitted-done _ _ b (omega arith)) ∙ h)))
+      absurd (done-refused _ b′ 0 n (sym (write-valid p code node b refl z ∙ fitted-done _ _ b (omega arith)) ∙ h)))
       (λ e. let r = same-refused b b′ _ n (sym (write-invalid p code node b (eqb-false _ _ e)) ∙ h) in
       record { buffer = r .0; number = r .1; failed = λ z. eqb-false _ _ e (sym (r .1) ∙ z) })

@@ -1,4 +1,4 @@
-// The rule behind a guard, as one byte.
+// The rule behind a guard: its number, and the same as one byte.
 ghost use mathlib.Core.Path.{_≡_};
 ghost use Prim.Native.Nat.{_≤_, _<_};
 ghost use Rattle.plan.specs.Plan.{size};
@@ -20,13 +20,21 @@ fn kind_named(plan: &[u8], code: u8, v: u8) -> u8
     plan::kind(plan, v)
 }
 
-pub(crate) fn rule_byte(plan: &[u8], code: u8, v: u8) -> u8
-    requires { ⌜ Accepted (now plan) × (1 ≤ code) × (code ≤ 8) ⌝ }
-    requires { ⌜ v < size (now plan) ⌝ }
+// What is no code is read as the last one.
+pub fn rule_number(plan: &[u8], code: u8, v: u8) -> usize
     ensures { λ r. ⌜ r ≡ ruleByte (now (plan .entry)) (eventOf code v) ⌝ }
 {
-    if (code == 3) & (plan::above(plan, v) == 5) {
+    let k = if (1 <= code) & (code <= 7) { code } else { 8 };
+    if (k == 3) & (plan::above(plan, v) == 5) {
         return 0xf3;
     }
-    16 * kind_named(plan, code, v) + code
+    16 * plan::wide(kind_named(plan, k, v)) + plan::wide(k)
+}
+
+// In an accepted plan the number is a byte.
+pub(crate) fn rule_byte(plan: &[u8], code: u8, v: u8) -> u8
+    requires { ⌜ Accepted (now plan) × (v < size (now plan)) ⌝ }
+    ensures { λ r. ⌜ r ≡ ruleByte (now (plan .entry)) (eventOf code v) ⌝ }
+{
+    rule_number(plan, code, v) as u8
 }

@@ -1,13 +1,19 @@
 // The guard of an event as bytes: what an event has to wait for at its site. What a guard is stands in specs/Guard.antt, its bytes in
-// specs/Bytes.antt, what the writer answers and leaves in specs/Written.antt. The public function has no `requires`: bad input is refused.
-mod digits;
+// specs/Bytes.antt, what the writer answers and leaves in specs/Written.antt. The tables by which it is made are in `table` and `whom`, the rule
+// behind it in `digits`. No public function has a `requires`: bad input is refused.
+pub mod digits;
 mod fill;
 mod put;
-mod table;
+pub mod table;
+pub mod whom;
 
 ghost use mathlib.Core.Path.{_≡_};
+ghost use Rattle.plan.specs.Check.{Accepted};
+ghost use Rattle.event.specs.Event.{eventOf};
+ghost use Rattle.guard.specs.Guard.{guard};
+ghost use Rattle.guard.specs.Bytes.{encode};
 ghost use Rattle.guard.specs.Rule.{named, ruleAnswer};
-ghost use Rattle.guard.specs.Written.{filled, writeOf};
+ghost use Rattle.guard.specs.Written.{filled, fitted, writeOf};
 
 // A written guard: its length, and the rule behind it.
 pub struct WrittenGuard {
@@ -27,7 +33,21 @@ pub struct Named {
     pub rule: u8,
 }
 
-// The guard of an event at the front of buf; the bytes behind it stay.
+// A guard at the front of a buffer that may be too short for it, and then stays: written aside, and copied.
+fn write_short(plan: &[u8], code: u8, v: u8, rule: u8, buf: &mut [u8]) -> Written
+    requires { ⌜ Accepted (now plan) ⌝ }
+    ensures { λ r. ⌜ fitted (encode (guard (now (plan .entry)) (eventOf code v))) rule (now (buf .entry)) ≡ filled (now (buf .exit)) r ⌝ }
+{
+    let mut local = [0u8; 290];
+    let length = fill::fill(plan, code, v, &mut local);
+    if buf.len() < length {
+        return Written::Refused(7);
+    }
+    bytes::copy(&local[..length], buf);
+    Written::Done(WrittenGuard { length, rule })
+}
+
+// The guard of an event at the front of buf; the bytes behind it stay. No guard has more than 290 bytes.
 pub fn write_guard(plan: &[u8], code: u32, node: u32, buf: &mut [u8]) -> Written
     ensures { λ r. ⌜ writeOf (now (plan .entry)) code node (now (buf .entry)) ≡ filled (now (buf .exit)) r ⌝ }
 {
@@ -35,16 +55,12 @@ pub fn write_guard(plan: &[u8], code: u32, node: u32, buf: &mut [u8]) -> Written
     if n != 0 {
         return Written::Refused(n);
     }
-    let mut local = [0u8; 290];
-    let long = fill::fill(plan, code as u8, node as u8, &mut local);
-    if buf.len() < long {
-        return Written::Refused(7);
+    let rule = digits::rule_byte(plan, code as u8, node as u8);
+    if buf.len() < 290 {
+        return write_short(plan, code as u8, node as u8, rule, buf);
     }
-    bytes::copy(&local[..long], buf);
-    Written::Done(WrittenGuard {
-        length: long,
-        rule: digits::rule_byte(plan, code as u8, node as u8),
-    })
+    let length = fill::fill(plan, code as u8, node as u8, buf);
+    Written::Done(WrittenGuard { length, rule })
 }
 
 // The rule behind the guard of an event.

@@ -72,10 +72,10 @@ fn put_any(code: u8, cs: &[u8], buf: &mut [u8], at: usize) -> usize
 
 // The guard of a row, at the front of buf.
 pub(crate) fn put_row(row: Row, cs: &[u8], buf: &mut [u8]) -> usize
-    requires { ⌜ (row .2 ≤ 3) × (length (now cs) ≤ 32) × (length (rowBytes row (now cs)) ≤ length (now buf)) ⌝ }
+    requires { ⌜ (row .1 ≤ 255) × (row .2 ≤ 3) × (length (now cs) ≤ 32) × (length (rowBytes row (now cs)) ≤ length (now buf)) ⌝ }
     ensures { λ r. ⌜ Put (rowBytes row (now (cs .entry))) (now (buf .entry)) 0 (now (buf .exit)) r ⌝ }
 {
     let more = if row.3 == 0 { 0 } else { 1 };
-    let w = put_first(row.0, row.1, row.2, more, cs, buf);
+    let w = put_first(row.0, row.1 as u8, row.2, more, cs, buf);
     put_any(row.3, cs, buf, w)
 }

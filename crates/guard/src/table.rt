@@ -2,7 +2,7 @@
 ghost use mathlib.Core.Path.{_≡_};
 ghost use mathlib.Core.Bool.{true, false};
 ghost use mathlib.Core.List.{List};
-ghost use Prim.Native.Nat.{ℕ};
+ghost use Prim.Native.Nat.{ℕ, _≤_};
 ghost use Rattle.lists.specs.Seq.{lastOr};
 ghost use Rattle.plan.specs.Plan.{kindOf};
 ghost use Rattle.event.specs.Event.{codeOf};
@@ -11,11 +11,12 @@ ghost use Rattle.guard.specs.Row.{RowOf, near, rowBy};
 
 // A guard that speaks of the nodes cs, as Row(code, node, n, any): [code of node] where n is 0, else for each of cs the first n of [code, abort,
 // turned down]; then [any of cs]. The code 0 leaves its part out.
-pub(crate) struct Row(pub(crate) u8, pub(crate) u8, pub(crate) u8, pub(crate) u8);
+pub struct Row(pub u8, pub usize, pub u8, pub u8);
 
 // The start of a first child, by the kind of its parent u.
-fn first(above: u8, u: u8) -> Row
+fn first(above: u8, u: usize) -> Row
     ensures { λ r. ⌜ ((cs : List ℕ) (v : ℕ) → isFirst cs v ≡ true → RowOf r cs (startBy (kindOf above) u cs v)) ⌝ }
+    ensures { λ r. ⌜ ((m : ℕ) → u ≤ m → r .1 ≤ m) ⌝ }
 {
     match above {
         2..=6 => Row(1, u, 0, 0),
@@ -26,8 +27,9 @@ fn first(above: u8, u: u8) -> Row
 }
 
 // That of a later child; b is the one before it.
-fn later(above: u8, u: u8, b: u8) -> Row
+fn later(above: u8, u: usize, b: usize) -> Row
     ensures { λ r. ⌜ ((cs : List ℕ) (v : ℕ) → isFirst cs v ≡ false → b ≡ beforeIn v cs v → RowOf r cs (startBy (kindOf above) u cs v)) ⌝ }
+    ensures { λ r. ⌜ ((m : ℕ) → u ≤ m → b ≤ m → r .1 ≤ m) ⌝ }
 {
     match above {
         2 => Row(3, b, 0, 0),
@@ -40,8 +42,9 @@ fn later(above: u8, u: u8, b: u8) -> Row
 }
 
 // By the kind of v; l is its last child.
-fn finish(k: u8, v: u8, l: u8) -> Row
+fn finish(k: u8, v: usize, l: usize) -> Row
     ensures { λ r. ⌜ ((cs : List ℕ) → l ≡ lastOr v cs → RowOf r cs (finishBy (kindOf k) v cs)) ⌝ }
+    ensures { λ r. ⌜ ((m : ℕ) → v ≤ m → l ≤ m → r .1 ≤ m) ⌝ }
 {
     match k {
         2 => Row(3, l, 0, 0),
@@ -54,8 +57,9 @@ fn finish(k: u8, v: u8, l: u8) -> Row
     }
 }
 
-fn abort(k: u8, v: u8, l: u8) -> Row
+fn abort(k: u8, v: usize, l: usize) -> Row
     ensures { λ r. ⌜ ((cs : List ℕ) → l ≡ lastOr v cs → RowOf r cs (abortBy (kindOf k) v cs)) ⌝ }
+    ensures { λ r. ⌜ ((m : ℕ) → v ≤ m → l ≤ m → r .1 ≤ m) ⌝ }
 {
     match k {
         2 | 7 => Row(0, 0, 0, 4),
@@ -67,9 +71,11 @@ fn abort(k: u8, v: u8, l: u8) -> Row
     }
 }
 
-// By the code; k is the kind of v, `above` that of its parent u, and b the node near v: the one before it for a start, else its last child.
-pub(crate) fn row_of(code: u8, k: u8, above: u8, u: u8, v: u8, b: u8) -> Row
-    ensures { λ r. ⌜ ((cs : List ℕ) → b ≡ near (codeOf code) v cs → RowOf r cs (rowBy (codeOf code) (kindOf k) (kindOf above) u v cs)) ⌝ }
+// By the code; k is the kind of v, `above` that of its parent u, and b the node near v: the one before it for a start, its last child for a
+// finish or an abort. The node of a row is none greater than these.
+pub fn row_of(code: u8, k: u8, above: u8, u: usize, v: usize, b: usize) -> Row
+    ensures { λ r. ⌜ ((cs : List ℕ) → (1 ≤ code → code ≤ 4 → b ≡ near (codeOf code) v cs) → RowOf r cs (rowBy (codeOf code) (kindOf k) (kindOf above) u v cs)) ⌝ }
+    ensures { λ r. ⌜ ((m : ℕ) → u ≤ m → v ≤ m → b ≤ m → r .1 ≤ m) ⌝ }
 {
     match code {
         1 => if b == v {

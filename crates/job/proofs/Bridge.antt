@@ -13,7 +13,7 @@ use Rattle.plan.specs.Check.{Accepted}
 use Rattle.event.specs.Event.{codeNumber, codeOf, isCode, Event, eventOf, same, among, applies}
 use Rattle.event.specs.Site.{Layout, Housed, siteOf}
 use Rattle.event.proofs.CodeLaws.{code-back, code-is, code-number}
-use Rattle.site.specs.Row.{hear}
+use Rattle.row.specs.Row.{hear}
 use Rattle.runs.specs.Agree.{Bytes}
 use Rattle.runs.proofs.Net.{Move, occur, relay, learn, passes, relayed, moved, passedBy, passedIn, movedAll}
 use Rattle.runs.proofs.Full.{passedIn-append, moved-append, site-in}

@@ -13,7 +13,7 @@ use Rattle.guard.specs.Guard.{beforeIn, isFirst, startBy, finishBy, abortBy, fi
 use Rattle.guard.specs.Rule.{ruleKind, isPicked, ruleByte}
 use Rattle.central.specs.Mark.{markNumber}
 use Rattle.retention.specs.Record.{commonTable, classOf, aboveWithin, nodesAbove, fell, countsAbove, countsAs, class, Record, recordOf}
-use Rattle.site.specs.Row.{heardIn, heard, hear}
+use Rattle.row.specs.Row.{heardIn, heard, hear}
 use Rattle.site.specs.Verdict.{refusalNumber, verdictNumber, verdictRule}
 use Rattle.site.specs.Step.{stepInvalid, decide, stepOf}
 use Rattle.job.specs.Simulation.{rowOf, withRow, Step, stepFrom, Reply, stateFits, eventBy, happen, tell, simulate, replayFrom, numbersFrom, zeros, replay, markBy, markAt, endMarks}

@@ -18,7 +18,7 @@ use Rattle.central.specs.Mark.{markNumber}
 use Rattle.central.specs.Central.{fresh, allowed, isRun, reaches}
 use Rattle.pass.specs.Pass.{pass}
 use Rattle.retention.specs.Record.{recordOf}
-use Rattle.site.specs.Row.{heard}
+use Rattle.row.specs.Row.{heard}
 use Rattle.site.specs.Verdict.{verdictNumber}
 use Rattle.site.specs.Step.{stepOf}
 use Rattle.runs.specs.Agree.{Bytes, Agrees}

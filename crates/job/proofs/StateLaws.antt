@@ -8,7 +8,7 @@ use lib.ListN.{length, getD, take, drop, set, length-take, length-drop, take-app
 use lib.Seq.{getD-take, getD-drop, take-set-le, take-set-lt, drop-set-lt, drop-set-add}
 use Rattle.plan.specs.Plan.{size}
 use Rattle.event.specs.Bit.{withBit}
-use Rattle.site.specs.Row.{hear}
+use Rattle.row.specs.Row.{hear}
 use Rattle.job.specs.Simulation.{rowOf, withRow}
 
 -- row q of n bytes ends where the next begins

@@ -15,10 +15,10 @@ use Rattle.event.specs.Event.{codeOf, isCode, at, eventOf, appliesBy, applies, 
 use Rattle.event.specs.Site.{Layout, Housed, siteOf}
 use Rattle.event.specs.Valid.{invalid}
 use Rattle.guard.specs.Guard.{guard}
-use Rattle.site.specs.Row.{heard, hear}
+use Rattle.row.specs.Row.{heard, hear}
 use Rattle.site.specs.Verdict.{verdictNumber}
 use Rattle.site.specs.Step.{stepInvalid, stepOf}
-use Rattle.site.proofs.RowLaws.{hear-again}
+use Rattle.row.proofs.RowLaws.{hear-again}
 use Rattle.site.proofs.StepLaws.{step-passes, step-leaves}
 use Rattle.runs.proofs.Net.{passes, relayed}
 use Rattle.runs.proofs.Full.{site-in}

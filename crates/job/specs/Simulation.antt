@@ -11,7 +11,7 @@ use Rattle.event.specs.Event.{start, offer, commit, abort, down, Event, at, eve
 use Rattle.event.specs.Site.{Layout, siteOf}
 use Rattle.event.specs.Valid.{invalid}
 use Rattle.central.specs.Mark.{Mark, idle, running, offered, committed, failed, turned-down, markNumber}
-use Rattle.site.specs.Row.{heard, hear}
+use Rattle.row.specs.Row.{heard, hear}
 use Rattle.site.specs.Verdict.{verdictNumber, verdictRule}
 use Rattle.site.specs.Step.{Stepped, stepOf}
 

@@ -3,7 +3,7 @@ use mathlib.Core.Path.{_≡_, refl, sym, ap, _∙_}
 use mathlib.Core.Bool.{Bool, true, false, cond, not}
 use mathlib.Core.List.{List, _++_}
 use Prim.Native.Nat.{ℕ, _+_, _-_, _*_, _/_, _%_, _≤_, _<_}
-use native.Mathlib.Nat.{mul-div-cancel, div-add-mod'}
+use native.Mathlib.Nat.{le-trans, mul-le-mul-left, mul-le-mul-right, mul-div-cancel, div-add-mod'}
 use native.Mathlib.Omega.{arith}
 use borrow.Author.Tests.{eq-eqb, ne-eqb, eqb-true, eqb-false, le-leb, lt-ltb}
 use lib.Dec.{eqb, ltb}
@@ -18,7 +18,7 @@ use Rattle.event.proofs.CodeLaws.{code-number}
 use Rattle.event.proofs.ValidLaws.{valid}
 use Rattle.event.proofs.HostLaws.{host-in}
 use Rattle.central.specs.Mark.{idle, running, offered, committed, failed, turned-down, markNumber}
-use Rattle.site.specs.Row.{heardIn, heard}
+use Rattle.row.specs.Row.{heardIn, heard}
 use Rattle.site.specs.Verdict.{verdictNumber, verdictSite, refusalNumber, refusalSite, verdictRule}
 use Rattle.site.specs.Step.{Stepped, stepped, siteAt, stepInvalid, decide, stepOf}
 use Rattle.site.specs.declared.Verdict.{Verdict}
@@ -98,18 +98,17 @@ module _ (p st : List ℕ) (code node q : ℕ) where
           rw (zero, heard-there, ← count, b) (ap (reply 0 0 0) (row-hear p st q node (ok .node-in) code ∙ rw (← count, e)))
 
 -- LENGTHS AND MARKS
-module _ (n len : ℕ) where
-  pub square-none : n ≡ 0 → eqb len 0 ≡ eqb len (n * n)
-  square-none e = rw e
+pub square-small : (n : ℕ) → n ≤ 65535 → n * n ≤ 4294836225
+square-small n l = le-trans (mul-le-mul-left n l) (mul-le-mul-right 65535 l)
 
-  module _ (some : n ≡ 0 → ⊥) where
-    pub square-not : (len / n ≡ n → ⊥) → false ≡ eqb len (n * n)
-    square-not h = sym (ne-eqb len (n * n) (λ e. h (rw e (mul-div-cancel n (omega arith)))))
+module _ (n len : ℕ) (some : n ≡ 0 → ⊥) where
+  pub square-not : (len / n ≡ n → ⊥) → false ≡ eqb len (n * n)
+  square-not h = sym (ne-eqb len (n * n) (λ e. h (rw e (mul-div-cancel n (omega arith)))))
 
-    pub square-is : len / n ≡ n → eqb (len % n) 0 ≡ eqb len (n * n)
-    square-is h =
-        let d : n * n + len % n ≡ len = ap (λ k. k * n + len % n) (sym h) ∙ div-add-mod' len n in
-        same-bool _ _ (λ e. let z = eqb-true (len % n) 0 e in eq-eqb len (n * n) (omega arith)) (λ e. let z = eqb-true len (n * n) e in eq-eqb (len % n) 0 (omega arith))
+  pub square-is : len / n ≡ n → eqb (len % n) 0 ≡ eqb len (n * n)
+  square-is h =
+      let d : n * n + len % n ≡ len = ap (λ k. k * n + len % n) (sym h) ∙ div-add-mod' len n in
+      same-bool _ _ (λ e. let z = eqb-true (len % n) 0 e in eq-eqb len (n * n) (omega arith)) (λ e. let z = eqb-true len (n * n) e in eq-eqb (len % n) 0 (omega arith))
 
 -- the mark of a node, by its byte in its own row
 mark-first : (c a d o s : Bool) → cond c 3 (cond a 4 (cond d 5 (cond o 2 (cond s 1 0)))) ≡ markNumber (cond c committed (cond a failed (cond d turned-down (cond o offered (cond s running idle)))))

@@ -20,12 +20,12 @@ pub struct Reply {
     pub rule: u8,
 }
 
-// len is n times n, with no product that could be too large.
+// len is n times n, with no product that could be too large, and no division for a small n.
 fn is_square(n: usize, len: usize) -> bool
     ensures { λ r. ⌜ r ≡ eqb len (n * n) ⌝ }
 {
-    if n == 0 {
-        return len == 0;
+    if n <= 65535 {
+        return len == n * n;
     }
     if len / n != n {
         return false;

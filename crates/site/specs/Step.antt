@@ -10,7 +10,7 @@ use Rattle.event.specs.Site.{own, siteOf}
 use Rattle.event.specs.Valid.{invalid}
 use Rattle.guard.specs.Guard.{guard, holds, barred}
 use Rattle.guard.specs.Rule.{ruleByte}
-use Rattle.site.specs.Row.{heard, hear}
+use Rattle.row.specs.Row.{heard, hear}
 use Rattle.site.specs.declared.PassedEvent.{PassedEvent}
 use Rattle.site.specs.declared.Refusal.{Refusal}
 use Rattle.site.specs.declared.Refusal.the-variants.{Invalid, Barred, Unmet}

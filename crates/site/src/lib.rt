@@ -1,18 +1,9 @@
-// What one site does: it steps an event on its own row, hears of events that happened elsewhere, and reads its row. What a row is stands in
-// specs/Row.antt, what a step and a message mean in specs/Step.antt: one equation for the answer and every lent byte. No public function
-// has a `requires`: a call that is not valid is refused with the number of the test that failed.
-mod bar;
-mod row;
-
+// What one site does: it steps an event on its own row, and hears of events that happened elsewhere. What a step and a message mean is
+// specs/Step.antt: one equation for the answer and every lent byte. No public function has a `requires`: a call that is not valid is refused
+// with the number of the test that failed.
 ghost use mathlib.Core.Path.{_≡_};
-ghost use Prim.Native.Nat.{_<_};
-ghost use lib.ListN.{length};
-ghost use Rattle.event.specs.Event.{eventOf};
-ghost use Rattle.guard.specs.Guard.{guard, holds};
-ghost use Rattle.guard.specs.Rule.{ruleByte};
-ghost use Rattle.site.specs.Row.{heardIn, heard, bytesHold};
 ghost use Rattle.site.specs.Verdict.{verdictNumber, verdictSite, verdictRule};
-ghost use Rattle.site.specs.Step.{stepped, decide, stepOf, told, hearOf};
+ghost use Rattle.site.specs.Step.{stepped, stepOf, told, hearOf};
 
 // An event that passed, with its site and the rule behind its guard.
 pub struct PassedEvent {
@@ -73,13 +64,6 @@ pub fn verdict_rule(v: Verdict) -> u8
     }
 }
 
-// The row has the event; past its end nothing is heard.
-pub fn heard(row: &[u8], code: u8, node: usize) -> bool
-    ensures { λ r. ⌜ r ≡ heardIn (now (row .entry)) code node ⌝ }
-{
-    event::has_bit(plan::byte_at(row, node), code)
-}
-
 // A message to a site: the event is set in its row.
 pub fn hear(plan: &[u8], code: u32, node: u32, row: &mut [u8]) -> u8
     ensures { λ r. ⌜ hearOf (now (plan .entry)) code node (now (row .entry)) ≡ told (now (row .exit)) r ⌝ }
@@ -92,40 +76,30 @@ pub fn hear(plan: &[u8], code: u32, node: u32, row: &mut [u8]) -> u8
     0
 }
 
-// A known event that applies, on a row of the plan's size, with its guard's bytes and rule.
-fn decide(plan: &[u8], code: u8, v: u8, g: &[u8], rule: u8, row: &mut [u8]) -> Verdict
-    requires { ⌜ (v < length (now row)) × (rule ≡ ruleByte (now plan) (eventOf code v)) ⌝ }
-    requires { ⌜ bytesHold (now row) (now g) ≡ holds (heard (now row)) (guard (now plan) (eventOf code v)) ⌝ }
-    ensures { λ r. ⌜ decide (now (plan .entry)) code v (now (row .entry)) ≡ stepped (now (row .exit)) r ⌝ }
+// A step of the event's site on that site's row: the tests, the bars, the guard, and then the event is set.
+pub fn step(plan: &[u8], code: u32, node: u32, row: &mut [u8]) -> Verdict
+    ensures { λ r. ⌜ stepOf (now (plan .entry)) code node (now (row .entry)) ≡ stepped (now (row .exit)) r ⌝ }
 {
-    let site = event::host(plan, code, v);
-    if bar::is_barred(plan, code, v, row) {
+    let fits = row.len() == plan::node_count(plan);
+    let n = event::validate(plan, fits, true, code, node);
+    if n != 0 {
+        return Verdict::Refused(Refusal::Invalid(n));
+    }
+    let k = code as u8;
+    let v = node as u8;
+    let site = event::host(plan, k, v);
+    if row::is_barred(plan, k, v, row) {
         return Verdict::Refused(Refusal::Barred(site));
     }
-    if !row::holds(row, g) {
+    if !row::is_met(plan, k, v, row) {
         return Verdict::Refused(Refusal::Unmet(site));
     }
-    row::set_heard(row, code, v);
+    row::set_heard(row, k, v);
+    let rule = guard::digits::rule_number(plan, k, v) as u8;
     Verdict::Passed(PassedEvent {
-        code,
+        code: k,
         node: v,
         site,
         rule,
     })
-}
-
-// A step of the event's site on that site's row. The plan is checked once: by `validate` where the row is no row of this plan, else by the
-// guard writer.
-pub fn step(plan: &[u8], code: u32, node: u32, row: &mut [u8]) -> Verdict
-    ensures { λ r. ⌜ stepOf (now (plan .entry)) code node (now (row .entry)) ≡ stepped (now (row .exit)) r ⌝ }
-{
-    if row.len() != plan::node_count(plan) {
-        let n = event::validate(plan, false, true, code, node);
-        return Verdict::Refused(Refusal::Invalid(n));
-    }
-    let mut buf = [0u8; 290];
-    match guard::write_guard(plan, code, node, &mut buf) {
-        guard::Written::Refused(n) => Verdict::Refused(Refusal::Invalid(n)),
-        guard::Written::Done(g) => decide(plan, code as u8, node as u8, &buf, g.rule, row),
-    }
 }

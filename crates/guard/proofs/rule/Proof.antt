@@ -26,7 +26,7 @@ cast-rule-byte-2 : tie.Need-cast-rule-byte-2
 cast-rule-byte-2 c = let v = ok c in omega (arith, v .plan .few)
 
 rule-byte-requires : tie.Need-rule-byte-requires
-rule-byte-requires c κs = let v = ok c in ((v .plan, v .low, v .high), v .node-in)
+rule-byte-requires c κs = let v = ok c in (v .plan, v .node-in)
 
 returns-2 : tie.Need-returns-2
 returns-2 c = answer-named _ _ _ (c .before .before .validate .ensures) (c .before .if1 .left) (c .rule-byte .ensures)

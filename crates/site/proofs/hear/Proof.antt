@@ -2,7 +2,7 @@
 use mathlib.Core.Path.{_≡_, sym, _∙_}
 use native.Mathlib.Omega.{arith}
 use Rattle.site.specs.Step.{stepInvalid}
-use Rattle.site.proofs.StepLaws.{step-tested, step-long, hear-invalid, hear-valid}
+use Rattle.site.proofs.StepLaws.{step-tested, hear-invalid, hear-valid}
 use borrow.Author.Needs.{needs}
 use Rattle.site.proofs.hear.Statement.{statement}
 use Rattle.site.proofs.hear.Tie as tie
@@ -31,7 +31,7 @@ cast-set-heard-2 : tie.Need-cast-set-heard-2
 cast-set-heard-2 c = let k = step-tested _ _ _ _ (zero (c .before)) in omega (arith, k .plan .few)
 
 set-heard-requires : tie.Need-set-heard-requires
-set-heard-requires c κs = let k = step-tested _ _ _ _ (zero (c .before)) in omega (arith, step-long _ _ _ _ (zero (c .before)))
+set-heard-requires c κs = search needs
 
 same-length : tie.Need-same-length
 same-length c = search needs

@@ -1,21 +1,38 @@
--- The tests answer, or the decision. Assumes nothing.
+-- Each return is a failed test, or one branch of the decision. Assumes nothing.
 use mathlib.Core.Path.{_≡_, sym, _∙_}
-use lib.ListN.{length}
+use mathlib.Core.Bool.{true, false}
 use native.Mathlib.Omega.{arith}
+use borrow.Author.Tests.{not-true, not-false}
+use lib.Dec.{eqb}
+use lib.ListN.{length}
 use Rattle.plan.specs.Plan.{size}
-use Rattle.site.proofs.StepLaws.{Ready, step-unfit, step-ready, step-unwritten}
+use Rattle.event.specs.Event.{eventOf}
+use Rattle.event.specs.Site.{own, siteOf}
+use Rattle.event.specs.Valid.{Valid}
+use Rattle.guard.specs.Guard.{barred}
+use Rattle.guard.proofs.RuleLaws.{rule-small}
+use Rattle.row.specs.Row.{heard}
+use Rattle.site.specs.Step.{stepInvalid}
+use Rattle.site.proofs.StepLaws.{step-tested, step-invalid, step-valid, decide-barred, decide-unmet, decide-passed}
 use borrow.Author.Needs.{needs}
 use Rattle.site.proofs.step.Statement.{statement}
 use Rattle.site.proofs.step.Tie as tie
 
--- the row is one of the plan's
-long : (c : tie.Else1) → length (c .before .before .before .before .args .row .now) ≡ size (c .before .before .before .before .args .plan .now)
-long c = c .if1 .left ∙ c .before .node-count .ensures
+-- what the tests answered
+tested : (c : tie.After-validate) → let s = c .before .before .before .before in c .validate .result ≡ stepInvalid (s .args .plan .now) (s .args .code) (s .args .node) (s .args .row .now)
+unfolding stepInvalid
+tested c = c .validate .ensures ∙ rw (c .before .node-count .ensures)
 
--- the guard was written
-ready : (c : tie.After-known-told2) → let w = c .before .before .before .before in let s = w .before .before .before .before .before .before in
-    Ready (s .args .plan .now) (s .args .code) (s .args .node) (s .args .row .now) (w .write-guard .last .1 .1 .1 .0) (c .before .g .given .0 .0)
-ready c = let w = c .before .before .before .before in step-ready _ _ _ _ (long (w .before .before)) _ _ _ (w .write-guard .ensures) _ (c .before .g .given .1)
+-- and what holds where none failed
+module _ (c : tie.Else1) where
+  zero : let a = c .before .before .before .before .before .args in stepInvalid (a .plan .now) (a .code) (a .node) (a .row .now) ≡ 0
+  zero = sym (tested (c .before)) ∙ c .if1 .left
+
+  ok : let a = c .before .before .before .before .before .args in Valid (a .plan .now) (eqb (length (a .row .now)) (size (a .plan .now))) true (a .code) (a .node)
+  ok = step-tested _ _ _ _ zero
+
+free : (c : tie.Else2) → let s = c .before .before .before .before .before .before .before .before .before in barred (s .args .plan .now) (heard (s .args .row .now)) (eventOf (s .args .code) (s .args .node)) ≡ false
+free c = sym (c .before .is-barred .ensures) ∙ c .if2 .left
 
 node-count-requires : tie.Need-node-count-requires
 node-count-requires c κs = search needs
@@ -24,40 +41,60 @@ validate-requires : tie.Need-validate-requires
 validate-requires c κs = search needs
 
 returns : tie.Need-returns
-returns c = step-unfit _ _ _ _ _ (c .validate .ensures) (λ e. c .before .if1 .taken (e ∙ sym (c .before .before .node-count .ensures)))
+returns c = step-invalid _ _ _ _ _ (tested (c .before)) (c .if1 .taken)
 
-slice-aggregate-write-guard : tie.Need-slice-aggregate-write-guard
-slice-aggregate-write-guard c = search needs
+cast-k : tie.Need-cast-k
+cast-k c = let k = ok c in omega arith
 
-write-guard-requires : tie.Need-write-guard-requires
-write-guard-requires c κs = search needs
+cast-v : tie.Need-cast-v
+cast-v c = let k = ok c in omega (arith, k .plan .few)
 
-enum-known-n : tie.Need-enum-known-n
-enum-known-n c = search needs
+host-requires : tie.Need-host-requires
+host-requires c κs = search needs
 
-enum-known-g : tie.Need-enum-known-g
-enum-known-g c = search needs
-
-cast-decide : tie.Need-cast-decide
-cast-decide c = let r = ready c .valid in omega arith
-
-cast-decide-2 : tie.Need-cast-decide-2
-cast-decide-2 c = let r = ready c .valid in omega (arith, r .plan .few)
-
-slice-aggregate-decide : tie.Need-slice-aggregate-decide
-slice-aggregate-decide c = search needs
-
-decide-requires : tie.Need-decide-requires
-decide-requires c κs = let r = ready (c .before .before) in ((r .within, r .named), r .met)
-
-returns-2 : tie.Need-returns-2
-returns-2 c = let w = c .before .before .before .before in step-unwritten _ _ _ _ (long (w .before .before)) _ _ _ (w .write-guard .ensures) _ (c .before .n .given .1) (omega arith)
+is-barred-requires : tie.Need-is-barred-requires
+is-barred-requires c κs = search needs
 
 same-length : tie.Need-same-length
 same-length c = search needs
 
+returns-2 : tie.Need-returns-2
+unfolding own siteOf
+returns-2 c = let h = c .before .before .before in
+    step-valid _ _ _ _ (zero (h .before)) ∙ decide-barred _ _ _ _ (sym (c .before .is-barred .ensures) ∙ c .if2 .taken) ∙ rw (h .host .ensures)
+
+is-met-requires : tie.Need-is-met-requires
+is-met-requires c κs = search needs
+
+same-length-2 : tie.Need-same-length-2
+same-length-2 c = search needs
+
 returns-3 : tie.Need-returns-3
-returns-3 c = ready (c .before .before .before .before .before) .decides ∙ c .before .before .decide .ensures
+unfolding own siteOf
+returns-3 c = let b = c .before .before .before in
+    let h = b .before .before .before in
+    step-valid _ _ _ _ (zero (h .before)) ∙ decide-unmet _ _ _ _ (free b) (sym (c .before .is-met .ensures) ∙ not-true _ (c .if3 .taken)) ∙ rw (h .host .ensures)
+
+set-heard-requires : tie.Need-set-heard-requires
+set-heard-requires c κs = search needs
+
+rule-number-requires : tie.Need-rule-number-requires
+rule-number-requires c κs = search needs
+
+cast-rule : tie.Need-cast-rule
+cast-rule c = let e = c .before .before .before .before .before .before .before .before .before .before .before .before in
+    omega (arith, c .rule-number .ensures, rule-small (ok e .plan) (ok e .node-in) (e .before .before .before .before .before .args .code))
+
+same-length-3 : tie.Need-same-length-3
+same-length-3 c = search needs
+
+returns-4 : tie.Need-returns-4
+unfolding own siteOf
+returns-4 c = let m = c .before .before .before .before .before in
+    let b = m .before .before .before in
+    let h = b .before .before .before in
+    step-valid _ _ _ _ (zero (h .before)) ∙ decide-passed _ _ _ _ (free b) (sym (m .before .is-met .ensures) ∙ not-false _ (m .if3 .left))
+    ∙ rw (h .host .ensures, c .before .before .before .set-heard .ensures, c .rule-number .ensures)
 
 pub step-spec : {M : Type 1} → statement M
 step-spec =
@@ -66,14 +103,17 @@ step-spec =
     node-count-requires
     validate-requires
     returns
-    slice-aggregate-write-guard
-    write-guard-requires
-    enum-known-n
-    enum-known-g
-    cast-decide
-    cast-decide-2
-    slice-aggregate-decide
-    decide-requires
-    returns-2
+    cast-k
+    cast-v
+    host-requires
+    is-barred-requires
     same-length
-    returns-3)
+    returns-2
+    is-met-requires
+    same-length-2
+    returns-3
+    set-heard-requires
+    rule-number-requires
+    cast-rule
+    same-length-3
+    returns-4)

@@ -17,19 +17,22 @@ more-few : (c : tie.Joined1) → c .if1 .more ≤ 1
 more-few c = ⊎-elim (λ w. omega arith) (λ w. omega arith) (c .if1 .came)
 
 put-first-requires : tie.Need-put-first-requires
-put-first-requires c κs = let s = c .before .before .before .before .before in
-    (s .pre .0, more-few (c .before), s .pre .1, omega (arith, row-length (s .args .row) (s .args .cs .now) (more-is (c .before)), s .pre .2))
+put-first-requires c κs = let s = c .before .before .before .before .before .before in
+    (s .pre .1, more-few (c .before .before), s .pre .2, omega (arith, row-length (s .args .row) (s .args .cs .now) (more-is (c .before .before)), s .pre .3))
+
+cast-put-first : tie.Need-cast-put-first
+cast-put-first c = search needs
 
 put-any-requires : tie.Need-put-any-requires
-put-any-requires c κs = let s = c .before .before .before .before .before .before .before .before .before in
+put-any-requires c κs = let s = c .before .before .before .before .before .before .before .before .before .before in
     let h = c .before .before .before .put-first .ensures in
-    (s .pre .1, omega (arith, row-length (s .args .row) (s .args .cs .now) (more-is (c .before .before .before .before .before)), s .pre .2, h .place, put-length h))
+    (s .pre .2, omega (arith, row-length (s .args .row) (s .args .cs .now) (more-is (c .before .before .before .before .before .before)), s .pre .3, h .place, put-length h))
 
 same-length : tie.Need-same-length
 same-length c = search needs
 
 returns : tie.Need-returns
-returns c = row-put _ _ (more-is (c .before .before .before .before .before .before .before .before)) (c .before .before .before .before .before .before .put-first .ensures) (c .before .before .put-any .ensures)
+returns c = row-put _ _ (more-is (c .before .before .before .before .before .before .before .before .before)) (c .before .before .before .before .before .before .put-first .ensures) (c .before .before .put-any .ensures)
 
 pub put-row-spec : {M : Type 1} → statement M
-put-row-spec = tie.close (tie.spec put-first-requires put-any-requires same-length returns)
+put-row-spec = tie.close (tie.spec cast-put-first put-first-requires put-any-requires same-length returns)

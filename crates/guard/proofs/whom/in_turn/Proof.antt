@@ -1,0 +1,11 @@
+-- As the law of the byte says. Assumes nothing.
+use Rattle.guard.proofs.WhomLaws.{turn-byte}
+use borrow.Author.Needs.{needs}
+use Rattle.guard.proofs.whom.in_turn.Statement.{statement}
+use Rattle.guard.proofs.whom.in_turn.Tie as tie
+
+returns : tie.Need-returns
+returns c = turn-byte _
+
+pub in-turn-spec : {M : Type 1} → statement M
+in-turn-spec = tie.close (tie.spec returns)

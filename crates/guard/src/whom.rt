@@ -1,0 +1,87 @@
+// Whom the guard of an event speaks of: the children of the node, those of its parent, or nobody.
+ghost use mathlib.Core.Path.{_≡_};
+ghost use mathlib.Core.Bool.{not};
+ghost use Prim.Native.Nat.{_≤_};
+ghost use lib.ListN.{length};
+ghost use Rattle.lists.specs.Put.{Put};
+ghost use Rattle.plan.specs.Plan.{task, isKind, kindOf, size};
+ghost use Rattle.plan.specs.Check.{Accepted};
+ghost use Rattle.event.specs.Event.{codeOf};
+ghost use Rattle.guard.specs.Row.{kin, inTurn, speaks, whose, leftOut, said};
+
+fn is_block(k: u8) -> bool
+    ensures { λ r. ⌜ r ≡ not (isKind task (kindOf k)) ⌝ }
+{
+    (2 <= k) & (k <= 8)
+}
+
+fn in_turn(k: u8) -> bool
+    ensures { λ r. ⌜ r ≡ inTurn (kindOf k) ⌝ }
+{
+    (k == 2) | (k == 6) | (k == 7)
+}
+
+// By the code, the node's kind and its parent's: the guard speaks of any children or siblings.
+pub fn speaks(code: u8, k: u8, above: u8) -> bool
+    ensures { λ r. ⌜ r ≡ speaks (codeOf code) (kindOf k) (kindOf above) ⌝ }
+{
+    match code {
+        1 => in_turn(above),
+        2 => is_block(k),
+        3 => (above != 5) & is_block(k),
+        4 => is_block(k),
+        5..=6 => false,
+        7 => false,
+        _ => true,
+    }
+}
+
+// Whose children they are.
+pub fn whose(plan: &[u8], code: u8, v: u8) -> u8
+    ensures { λ r. ⌜ r ≡ whose (now (plan .entry)) (codeOf code) v ⌝ }
+{
+    if (2 <= code) & (code <= 7) {
+        v
+    } else {
+        plan::parent(plan, v)
+    }
+}
+
+// And which of them is left out. The root is nobody's child, so 0 leaves none out.
+pub fn left_out(code: u8, v: u8) -> u8
+    ensures { λ r. ⌜ r ≡ leftOut (codeOf code) v ⌝ }
+{
+    if (1 <= code) & (code <= 7) { 0 } else { v }
+}
+
+// The children of u but `skip`, at the front of cs, and how many they are.
+fn gather(plan: &[u8], u: u8, skip: u8, cs: &mut [u8]) -> usize
+    requires { ⌜ size (now plan) ≤ 160 ⌝ }
+    requires { ⌜ length (kin (now plan) u skip) ≤ length (now cs) ⌝ }
+    ensures { λ r. ⌜ Put (kin (now (plan .entry)) u skip) (now (cs .entry)) 0 (now (cs .exit)) r ⌝ }
+{
+    let n = plan::node_count(plan);
+    let mut w = 0;
+    let mut c = 1;
+    while c < n {
+        if plan[2 * c + 1] == u {
+            if c as u8 != skip {
+                cs[w] = c as u8;
+                w += 1;
+            }
+        }
+        c += 1;
+    }
+    w
+}
+
+// Those that the guard speaks of.
+pub(crate) fn said(plan: &[u8], code: u8, v: u8, cs: &mut [u8]) -> usize
+    requires { ⌜ Accepted (now plan) × (32 ≤ length (now cs)) ⌝ }
+    ensures { λ r. ⌜ Put (said (now (plan .entry)) (codeOf code) v) (now (cs .entry)) 0 (now (cs .exit)) r ⌝ }
+{
+    if !speaks(code, plan::kind(plan, v), plan::above(plan, v)) {
+        return 0;
+    }
+    gather(plan, whose(plan, code, v), left_out(code, v), cs)
+}
