@@ -3,3 +3,4 @@ pub mod EvaluateLaws
 pub mod BarLaws
 pub mod RowLaws
 pub mod StepLaws
+pub mod Main

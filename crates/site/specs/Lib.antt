@@ -2,3 +2,4 @@
 pub mod Row
 pub mod Verdict
 pub mod Step
+pub mod Only
