@@ -1,44 +1,37 @@
-// The calls by their letters. Each answer is put in one number: the refusal's, and a value times 65536.
+// The calls by their letters, through the functions that C programs call; C has no list of steps and no text.
+use crate::item;
+ghost use Rattle.cases.specs.Table.{Begins};
 
-// The guard's length.
-fn written(w: guard::Written) -> usize {
-    match w {
-        guard::Written::Done(g) => g.length % 1000 * 65536,
-        guard::Written::Refused(n) => n as usize,
-    }
+// How many bytes a text gives to print, as a value: at most 15,483 (text-fits, crates/script/proofs/ScriptLaws.antt), so nothing is cut.
+fn printed(n: usize) -> u32 {
+    65536 * ((n % 65536) as u32)
 }
 
-// 1 where the event is allowed.
-fn ruled(r: central::Ruling) -> usize {
-    match r {
-        central::Ruling::Allowed => 65536,
-        central::Ruling::Forbidden => 0,
-        central::Ruling::Refused(n) => n as usize,
-    }
-}
-
-// Check, guard, step, hear, event or message, central rule, pass, record, list of steps, rewriting, text.
+// The call of the line at a place: check, guard, step, hear, event or message, central rule, pass, record, list of steps, rewriting, text.
+// Its result has the number in the lowest byte and the value, where there is one, from bit 16 on.
 pub(crate) fn call(
-    letter: u8,
+    text: &[u8],
+    line: usize,
     plan: &[u8],
-    code: u32,
-    node: u32,
-    site: u32,
     c: &[u8],
     a: &mut [u8],
     b: &mut [u8],
-) -> usize {
-    match letter {
-        b'K' => plan::wide(checker::check(plan)),
-        b'G' => written(guard::write_guard(plan, code, node, a)),
-        b'S' => plan::wide(site::number(site::step(plan, code, node, a))),
-        b'H' => plan::wide(site::hear(plan, code, node, a)),
-        b'E' => plan::wide(simulation::simulate(plan, code, node, site, a).number),
-        b'C' => ruled(central::rule(plan, code, node, a, b)),
-        b'P' => plan::wide(pass::pass(plan, c, a)),
-        b'R' => plan::wide(simulation::record(plan, c, a, b)),
-        b'L' => plan::wide(simulation::run(plan, c, a, b)),
-        b'W' => plan::wide(rewrite::rewrite(plan, a)),
-        _ => script::rehearse(c, a) % 65536 * 65536,
+) -> u32
+    requires { ⌜ Begins line (now text) ⌝ }
+{
+    let code = item::wide(text, line + 2);
+    let node = item::wide(text, line + 7);
+    match plan::byte_at(text, line) {
+        b'K' => vulcedar::vulcedar_check(plan),
+        b'G' => vulcedar::vulcedar_guard(plan, code, node, a),
+        b'S' => vulcedar::vulcedar_step(plan, code, node, a),
+        b'H' => vulcedar::vulcedar_hear(plan, code, node, a),
+        b'E' => vulcedar::vulcedar_simulate(plan, code, node, item::wide(text, line + 12), a),
+        b'C' => vulcedar::vulcedar_central(plan, code, node, a, b),
+        b'P' => vulcedar::vulcedar_pass(plan, c, a),
+        b'R' => vulcedar::vulcedar_record(plan, c, a, b),
+        b'L' => simulation::run(plan, c, a, b) as u32,
+        b'W' => vulcedar::vulcedar_rewrite(plan, a),
+        _ => printed(script::rehearse(c, a)),
     }
 }

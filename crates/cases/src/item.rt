@@ -1,7 +1,8 @@
-// A line of the table and the bytes that it stands for. It is read where it is, as the front of a longer text.
-ghost use Prim.Native.Nat.{_≤_, _<_};
+// A line of the table, by the place in the text where it begins, and the bytes that it stands for.
+ghost use Prim.Native.Nat.{_≤_};
 ghost use lib.ListN.{length};
 ghost use Rattle.io.specs.Counts.{Counts};
+ghost use Rattle.cases.specs.Table.{Begins};
 
 // The value of a digit, 0 of any other byte.
 fn digit(b: u8) -> u8
@@ -15,98 +16,80 @@ fn digit(b: u8) -> u8
 }
 
 // Two digits.
-fn pair(line: &[u8], at: usize) -> u8
-    requires { ⌜ at ≤ 200000 ⌝ }
+fn pair(text: &[u8], at: usize) -> u8
+    requires { ⌜ at ≤ 300000 ⌝ }
 {
-    16 * digit(plan::byte_at(line, at)) + digit(plan::byte_at(line, at + 1))
+    16 * digit(plan::byte_at(text, at)) + digit(plan::byte_at(text, at + 1))
 }
 
 // Four digits.
-pub(crate) fn wide(line: &[u8], at: usize) -> u32
-    requires { ⌜ at ≤ 100 ⌝ }
-    ensures { λ r. ⌜ r < 65536 ⌝ }
+pub(crate) fn wide(text: &[u8], at: usize) -> u32
+    requires { ⌜ at ≤ 200000 ⌝ }
 {
-    256 * (pair(line, at) as u32) + (pair(line, at + 2) as u32)
+    256 * (pair(text, at) as u32) + (pair(text, at + 2) as u32)
 }
 
 // How many bytes the line gives.
-fn given(line: &[u8]) -> usize {
-    let end = bytes::scan::find(line, 0, line.len(), b'\n');
-    if end < 10 {
+fn given(text: &[u8], line: usize) -> usize
+    requires { ⌜ Begins line (now text) ⌝ }
+    ensures { λ r. ⌜ r ≤ 65536 ⌝ }
+{
+    let end = bytes::scan::find(text, line, text.len(), b'\n');
+    if end < line + 10 {
         return 0;
     }
-    if plan::byte_at(line, 1) == b'"' {
-        end - 10
+    let n = end - line - 10;
+    if plan::byte_at(text, line + 1) == b'"' {
+        n
     } else {
-        (end - 10) / 2
+        n / 2
     }
 }
 
-// How many bytes it stands for, and no more than the list has.
-pub(crate) fn size(line: &[u8], list: &[u8]) -> usize
-    ensures { λ r. ⌜ Counts r (now (list .entry)) ⌝ }
+// How many bytes it stands for, and no more than there is room for.
+fn size(text: &[u8], line: usize, room: usize) -> usize
+    requires { ⌜ Begins line (now text) ⌝ }
+    ensures { λ r. ⌜ r ≤ room ⌝ }
 {
-    let mut n = wide(line, 2) as usize;
+    let mut n = wide(text, line + 2) as usize;
     if n == 0 {
-        n = given(line);
+        n = given(text, line);
     }
-    if n < list.len() { n } else { list.len() }
+    if n < room { n } else { room }
 }
 
 // The byte given at a place.
-fn read(line: &[u8], i: usize) -> u8
+fn read(text: &[u8], line: usize, i: usize) -> u8
+    requires { ⌜ Begins line (now text) ⌝ }
     requires { ⌜ i ≤ 65536 ⌝ }
 {
-    if plan::byte_at(line, 1) == b'"' {
-        let b = plan::byte_at(line, 10 + i);
-        return if b == b'/' { b'\n' } else { b };
+    if plan::byte_at(text, line + 1) != b'"' {
+        return pair(text, line + 10 + 2 * i);
     }
-    pair(line, 10 + 2 * i)
+    let b = plan::byte_at(text, line + 10 + i);
+    if b == b'/' { b'\n' } else { b }
 }
 
-// The byte that it has at a place: the last `unit` of those given are repeated.
-fn byte_of(line: &[u8], i: usize) -> u8
-    requires { ⌜ i ≤ 65536 ⌝ }
-{
-    let n = given(line);
-    let unit = plan::wide(pair(line, 7));
-    if i < n {
-        return read(line, i);
-    }
-    if unit == 0 {
-        return 0;
-    }
-    if n < unit {
-        return 0;
-    }
-    let turn = (i - n) % unit;
-    if unit <= turn {
-        return 0;
-    }
-    read(line, n - unit + turn)
-}
-
-pub(crate) fn fill(line: &[u8], list: &mut [u8])
+// Puts its bytes at the start of a list of zeros and tells how many there are: those given, then the last `unit` of them again and again.
+pub(crate) fn fill(text: &[u8], line: usize, list: &mut [u8]) -> usize
+    requires { ⌜ Begins line (now text) ⌝ }
     requires { ⌜ length (now list) ≤ 65536 ⌝ }
+    ensures { λ r. ⌜ Counts r (now (list .exit)) ⌝ }
 {
+    let first = given(text, line);
+    let unit = plan::wide(pair(text, line + 7));
+    let n = size(text, line, list.len());
     let mut i = 0;
-    while i < list.len() {
-        list[i] = byte_of(line, i);
+    while i < n {
+        let b = if i < first {
+            read(text, line, i)
+        } else if unit <= first {
+            list[i - unit]
+        } else {
+            0
+        };
+        list[i] = b;
         i += 1;
     }
-}
-
-// How many bytes there are up to the last one that is not the line's.
-pub(crate) fn changed(line: &[u8], list: &[u8]) -> usize
-    requires { ⌜ length (now list) ≤ 65536 ⌝ }
-{
-    let mut last = 0;
-    let mut i = 0;
-    while i < list.len() {
-        if list[i] != byte_of(line, i) {
-            last = i + 1;
-        }
-        i += 1;
-    }
-    last
+    n
 }

@@ -13,67 +13,47 @@ mod item;
 mod say;
 
 use libc::STDIN_FILENO;
-use libc::STDOUT_FILENO;
 ghost use Prim.Native.Nat.{_≤_};
 ghost use lib.ListN.{length};
+ghost use Rattle.cases.specs.Table.{Begins};
 
-// The call of a line, on a plan and handed bytes; a and b are lent as their lines say.
-fn tried(line: &[u8], as_a: &[u8], as_b: &[u8], plan: &[u8], c: &[u8], a: &mut [u8], b: &mut [u8])
-    requires { ⌜ length (now a) ≤ 65536 ⌝ }
-    requires { ⌜ length (now b) ≤ 65536 ⌝ }
+// The call of the line at a place, on a plan and handed bytes; a and b are lent as their lines say.
+fn tried(text: &[u8], at: usize, as_a: usize, as_b: usize, plan: &[u8], c: &[u8])
+    requires { ⌜ Begins at (now text) ⌝ }
+    requires { ⌜ Begins as_a (now text) ⌝ }
+    requires { ⌜ Begins as_b (now text) ⌝ }
 {
-    item::fill(as_a, a);
-    item::fill(as_b, b);
-    let code = item::wide(line, 2);
-    let node = item::wide(line, 7);
-    let site = item::wide(line, 12);
-    let letter = plan::byte_at(line, 0);
-    let answer = calls::call(letter, plan, code, node, site, c, a, b);
-    say::words(line, 17);
-    say::answer(answer);
-    say::lent(as_a, a, as_b, b);
-}
-
-// A heading is printed and a case tried; any other line has been noted.
-fn case(line: &[u8], as_plan: &[u8], as_a: &[u8], as_b: &[u8], as_c: &[u8]) {
-    let letter = plan::byte_at(line, 0);
-    if letter == b'#' {
-        say::words(line, 0);
-        io::write_all(STDOUT_FILENO, b"\n");
-        return;
-    }
-    if letter < b'A' {
-        return;
-    }
-    if b'Z' < letter {
-        return;
-    }
-    let mut plan = io::buffer();
     let mut a = io::large_buffer();
     let mut b = io::buffer();
-    let mut c = io::large_buffer();
-    item::fill(as_plan, &mut plan);
-    item::fill(as_c, &mut c);
-    let n = item::size(as_plan, &plan);
-    let m = item::size(as_a, &a);
-    let k = item::size(as_b, &b);
-    let j = item::size(as_c, &c);
-    tried(
-        line,
-        as_a,
-        as_b,
-        &plan[..n],
-        &c[..j],
-        &mut a[..m],
-        &mut b[..k],
-    );
+    let m = item::fill(text, as_a, &mut a);
+    let n = item::fill(text, as_b, &mut b);
+    let was_a = a;
+    let was_b = b;
+    let result = calls::call(text, at, plan, c, &mut a[..m], &mut b[..n]);
+    say::answer(text, at, result);
+    say::lent(plan::byte_at(text, at), &was_a, &a, &was_b, &b);
+}
+
+// A case, by the lines noted for it.
+fn case(text: &[u8], at: usize, p: usize, a: usize, b: usize, c: usize)
+    requires { ⌜ Begins at (now text) ⌝ }
+    requires { ⌜ Begins p (now text) ⌝ }
+    requires { ⌜ Begins a (now text) ⌝ }
+    requires { ⌜ Begins b (now text) ⌝ }
+    requires { ⌜ Begins c (now text) ⌝ }
+{
+    let mut plan = io::buffer();
+    let mut handed = io::large_buffer();
+    let n = item::fill(text, p, &mut plan);
+    let m = item::fill(text, c, &mut handed);
+    tried(text, at, a, b, &plan[..n], &handed[..m]);
 }
 
 // Where the last line of a letter begins.
 fn noted(text: &[u8], at: usize, letter: u8, before: usize) -> usize
-    requires { ⌜ at ≤ length (now text) ⌝ }
-    requires { ⌜ before ≤ length (now text) ⌝ }
-    ensures { λ r. ⌜ r ≤ length (now (text .entry)) ⌝ }
+    requires { ⌜ Begins at (now text) ⌝ }
+    requires { ⌜ Begins before (now text) ⌝ }
+    ensures { λ r. ⌜ Begins r (now (text .entry)) ⌝ }
 {
     if plan::byte_at(text, at) == letter {
         at
@@ -82,7 +62,7 @@ fn noted(text: &[u8], at: usize, letter: u8, before: usize) -> usize
     }
 }
 
-// Each line in turn.
+// Each line in turn: a heading is printed, a case is tried, and any other line is noted.
 fn lines(text: &[u8])
     requires { ⌜ length (now text) ≤ 65536 ⌝ }
 {
@@ -97,7 +77,11 @@ fn lines(text: &[u8])
         a = noted(text, at, b'a', a);
         b = noted(text, at, b'b', b);
         c = noted(text, at, b'c', c);
-        case(&text[at..], &text[p..], &text[a..], &text[b..], &text[c..]);
+        match plan::byte_at(text, at) {
+            b'#' => say::heading(text, at),
+            b'A'..=b'Z' => case(text, at, p, a, b, c),
+            _ => {}
+        }
         at = bytes::scan::find(text, at, end, b'\n') + 1;
     }
 }

@@ -1,31 +1,49 @@
-// Printing.
-use crate::item;
+// Prints lines: headings, a case's label and result, and what became of its lent bytes. Every function is proved to be
+// safe for any input. There is nothing else to promise: none answers anything or writes to lent bytes, and no contract can speak of output.
 use libc::STDOUT_FILENO;
-ghost use Prim.Native.Nat.{_≤_};
-ghost use lib.ListN.{length};
 
-// A line's words from a column on.
-pub(crate) fn words(line: &[u8], from: usize) {
-    let end = bytes::scan::find(line, 0, line.len(), b'\n');
-    if from <= end {
-        io::write_all(STDOUT_FILENO, &line[from..end]);
-    }
+fn put(b: u8) {
+    let one = [b];
+    io::write_all(STDOUT_FILENO, &one);
 }
 
-// The number answered, and the value if there is one.
-pub(crate) fn answer(n: usize) {
-    io::write_all(STDOUT_FILENO, b" ");
-    io::print_decimal(STDOUT_FILENO, (n % 65536) as u64);
-    if 65536 <= n {
-        io::write_all(STDOUT_FILENO, b" (");
-        io::print_decimal(STDOUT_FILENO, (n / 65536) as u64);
-        io::write_all(STDOUT_FILENO, b")");
+// The words of the line that begins at a place, from a column on.
+fn words(text: &[u8], line: usize, column: usize) {
+    if text.len() < line {
+        return;
     }
+    let end = bytes::scan::find(text, line, text.len(), b'\n');
+    if end - line < column {
+        return;
+    }
+    let from = line + column;
+    io::write_all(STDOUT_FILENO, &text[from..end]);
+}
+
+// A line as it is.
+pub(crate) fn heading(text: &[u8], line: usize) {
+    words(text, line, 0);
+    put(b'\n');
+}
+
+// A case's label, and its result: the number in the lowest byte, and the value from bit 16 on if there is one. A step's, its rule, is left out.
+pub(crate) fn answer(text: &[u8], line: usize, result: u32) {
+    words(text, line, 17);
+    put(b' ');
+    io::print_decimal(STDOUT_FILENO, (result % 256) as u64);
+    let letter = plan::byte_at(text, line);
+    if letter == b'S' || letter == b'E' || result < 65536 {
+        return;
+    }
+    put(b' ');
+    put(b'(');
+    io::print_decimal(STDOUT_FILENO, (result / 65536) as u64);
+    put(b')');
 }
 
 // The first n bytes: as text, its first line.
-fn bytes(text: bool, list: &[u8], n: usize) {
-    io::write_all(STDOUT_FILENO, b" ");
+fn shown(text: bool, list: &[u8], n: usize) {
+    put(b' ');
     let mut i = 0;
     while i < n {
         let b = plan::byte_at(list, i);
@@ -33,8 +51,7 @@ fn bytes(text: bool, list: &[u8], n: usize) {
             if b == b'\n' {
                 return;
             }
-            let one = [b];
-            io::write_all(STDOUT_FILENO, &one);
+            put(b);
         } else {
             io::print_hex(STDOUT_FILENO, b as u64, 2);
         }
@@ -42,22 +59,32 @@ fn bytes(text: bool, list: &[u8], n: usize) {
     }
 }
 
-// Whether the lent bytes are as their lines say, or what they are now.
-pub(crate) fn lent(as_a: &[u8], a: &[u8], as_b: &[u8], b: &[u8])
-    requires { ⌜ length (now a) ≤ 65536 ⌝ }
-    requires { ⌜ length (now b) ≤ 65536 ⌝ }
-{
-    let m = item::changed(as_a, a);
-    let n = item::changed(as_b, b);
+// How many bytes there are up to the last one that is not as it was.
+fn changed(was: &[u8], list: &[u8]) -> usize {
+    let mut last = 0;
+    let mut i = 0;
+    while i < list.len() {
+        if list[i] != plan::byte_at(was, i) {
+            last = i + 1;
+        }
+        i += 1;
+    }
+    last
+}
+
+// Whether both lists of lent bytes are as they were, or what they are now; those of a text as text.
+pub(crate) fn lent(letter: u8, was_a: &[u8], a: &[u8], was_b: &[u8], b: &[u8]) {
+    let m = changed(was_a, a);
+    let n = changed(was_b, b);
     if m == 0 && n == 0 {
         io::write_all(STDOUT_FILENO, b" left");
     }
     if 0 < m {
-        bytes(plan::byte_at(as_a, 1) == b'"', a, m);
+        shown(letter == b'T', a, m);
     }
     if 0 < n {
         io::write_all(STDOUT_FILENO, b", second");
-        bytes(plan::byte_at(as_b, 1) == b'"', b, n);
+        shown(false, b, n);
     }
-    io::write_all(STDOUT_FILENO, b"\n");
+    put(b'\n');
 }

@@ -1,2 +1,3 @@
 -- Laws that the proofs here and in upper crates cite.
 pub mod StepLaws
+pub mod Main

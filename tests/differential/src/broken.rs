@@ -54,6 +54,8 @@ pub enum Mistake {
     MessageInTheWrongRow,
     /// A child stands among its own siblings in a guard.
     SelfAmongSiblings,
+    /// A clause without events holds, so that an only child is turned down.
+    EmptyClauseHolds,
     /// The rest of the guard's buffer is cleared.
     GuardClearsTheRest,
     /// A short buffer is noticed before a wrong event is.
@@ -160,7 +162,7 @@ pub enum Mistake {
 
 impl Mistake {
     /// All mistakes; the first is number 1.
-    pub const ALL: [Mistake; 73] = [
+    pub const ALL: [Mistake; 74] = [
         Mistake::CommitUnlessAbortHeard,
         Mistake::PickAtTheChild,
         Mistake::TurnedDownStillRuns,
@@ -183,6 +185,7 @@ impl Mistake {
         Mistake::FalseMessageBelieved,
         Mistake::MessageInTheWrongRow,
         Mistake::SelfAmongSiblings,
+        Mistake::EmptyClauseHolds,
         Mistake::GuardClearsTheRest,
         Mistake::ShortBufferFirst,
         Mistake::RefusedPassWrites,
@@ -268,6 +271,10 @@ impl Broken {
         match self.mistake {
             Mistake::PickAtTheChild if applies && code == PICK => return pick_at_child(node, row, rule),
             Mistake::GuardNeverHolds if applies => return 11 | at,
+            Mistake::EmptyClauseHolds if number(result) == 11 && is_lone_offer(&tree, code, node, row) => {
+                row[node as usize] |= bit(code);
+                return at | rule;
+            }
             Mistake::SetsNothing => return result,
             Mistake::PretendsAfterTheFirst if applies && self.has_passed => return at | rule,
             Mistake::RuleWithRefusals if applies && number(result) != 0 => return result | rule,
@@ -413,6 +420,13 @@ fn guard_holds(plan: &[u8], code: u32, node: u32, row: &[u8]) -> bool {
         clauses = rest;
     }
     true
+}
+
+/// Whether the event turns down an only child that has offered.
+fn is_lone_offer(tree: &Tree, code: u32, node: u32, row: &[u8]) -> bool {
+    let node = node as usize;
+    let is_alone = tree.above(node).first().is_some_and(|&parent| tree.children[parent].len() == 1);
+    code == TURNED_DOWN && is_alone && row[node] & bit(OFFER) != 0
 }
 
 /// A pick by the child's own row, as if it were the child's business.

@@ -100,6 +100,22 @@ pub fn rows<S: Implementation, R: Implementation>(trial: &mut Trial<S, R>, rando
     }
 }
 
+/// The only child of an xor under every row that there is: no row lets its
+/// turn-down pass. Its offer is the control: it passes wherever the child has
+/// started and neither offered nor failed, which is in an eighth of the rows.
+pub fn only_child<S: Implementation, R: Implementation>(trial: &mut Trial<S, R>) {
+    let plan = [XOR, 0xff, TASK, 0];
+    let mut passed = [0; 2];
+    for row in 0..=u16::MAX {
+        for (count, code) in passed.iter_mut().zip([TURNED_DOWN, OFFER]) {
+            *count += u32::from(number(trial.step(&plan, code, 1, &row.to_le_bytes())) == 0);
+        }
+    }
+    trial.tally.compare(passed == [0, 0x1_0000 / 8], || {
+        format!("an only child is turned down in {} rows and offers in {}", passed[0], passed[1])
+    });
+}
+
 /// Passes with answers that fit, nearly fit or don't fit at all.
 pub fn passes<S: Implementation, R: Implementation>(
     trial: &mut Trial<S, R>,

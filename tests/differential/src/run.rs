@@ -10,6 +10,8 @@ use crate::{calls, job, texts};
 
 /// Texts in one part of a run.
 const TEXTS_IN_A_PART: usize = 64;
+/// The part that tries every row of an only child.
+pub const ONLY_CHILD_PART: u64 = 1 << 39;
 /// Where the parts with texts begin to be numbered.
 const FIRST_TEXT_PART: u64 = 1 << 40;
 
@@ -52,6 +54,9 @@ pub fn run_against(subject: impl Implementation, reference: impl Implementation,
         run_part(&mut trial, options.seed, part);
         part += 1;
     }
+    if trial.tally.differences() < options.enough {
+        run_part(&mut trial, options.seed, ONLY_CHILD_PART);
+    }
     let mut part = FIRST_TEXT_PART;
     while trial.tally.texts < options.texts && trial.tally.differences() < options.enough {
         run_part(&mut trial, options.seed, part);
@@ -65,6 +70,9 @@ fn run_part<S: Implementation, R: Implementation>(trial: &mut Trial<S, R>, seed:
     trial.tally.part = part;
     if part >= FIRST_TEXT_PART {
         return texts::run(trial, random, TEXTS_IN_A_PART);
+    }
+    if part == ONLY_CHILD_PART {
+        return calls::only_child(trial);
     }
     let plan = if part % 128 == 39 { large_plan(random) } else { any_plan(random) };
     match part % 32 {

@@ -3,7 +3,7 @@
 
 use differential::Reference;
 use differential::broken::{Broken, Mistake};
-use differential::run::{Options, run, run_against};
+use differential::run::{ONLY_CHILD_PART, Options, run, run_against};
 
 #[test]
 fn two_copies_of_the_reference_agree() {
@@ -45,6 +45,7 @@ fn a_mistake_on_both_sides_is_found() {
         Mistake::SecondBranchOnYes,
         Mistake::FalseMessageBelieved,
         Mistake::MessageInTheWrongRow,
+        Mistake::EmptyClauseHolds,
         Mistake::GuardClearsTheRest,
         Mistake::RefusedPassWrites,
         Mistake::AnswersReadEverywhere,
@@ -79,6 +80,19 @@ fn a_mistake_on_both_sides_is_found() {
         let tally = run_against(Broken::new(mistake), Broken::new(mistake), options);
         assert_ne!(tally.differences(), 0, "{mistake:?} on both sides is not found");
         println!("{mistake:?}: found after {} comparisons", tally.comparisons());
+    }
+}
+
+/// Trying every row of an only child finds a turn-down that passes, and
+/// notices if nothing passes at all, even if both sides agree on it.
+#[test]
+fn every_row_of_an_only_child_is_tried() {
+    let options = Options { only: Some(ONLY_CHILD_PART), ..Options::default() };
+    let tally = run(Reference, options);
+    assert_eq!((tally.steps(), tally.differences()), (2 * 0x1_0000, 0), "{:#?}", tally.described());
+    for mistake in [Mistake::EmptyClauseHolds, Mistake::GuardNeverHolds] {
+        let tally = run_against(Broken::new(mistake), Broken::new(mistake), options);
+        assert_eq!(tally.differences(), 1, "{mistake:?}: {:#?}", tally.described());
     }
 }
 

@@ -27,50 +27,11 @@ noted-requires-3 c κs = search needs
 noted-requires-4 : tie.Need-noted-requires-4 Inv-loop μ-loop
 noted-requires-4 c κs = search needs
 
-sub-case : tie.Need-sub-case Inv-loop μ-loop
-sub-case c = search needs
+byte-at-requires : tie.Need-byte-at-requires Inv-loop μ-loop
+byte-at-requires c κs = search needs
 
-part-case-start : tie.Need-part-case-start Inv-loop μ-loop
-part-case-start c = search needs
-
-part-case-end : tie.Need-part-case-end Inv-loop μ-loop
-part-case-end c = search needs
-
-sub-case-2 : tie.Need-sub-case-2 Inv-loop μ-loop
-sub-case-2 c = search needs
-
-part-case-start-2 : tie.Need-part-case-start-2 Inv-loop μ-loop
-part-case-start-2 c = search needs
-
-part-case-end-2 : tie.Need-part-case-end-2 Inv-loop μ-loop
-part-case-end-2 c = search needs
-
-sub-case-3 : tie.Need-sub-case-3 Inv-loop μ-loop
-sub-case-3 c = search needs
-
-part-case-start-3 : tie.Need-part-case-start-3 Inv-loop μ-loop
-part-case-start-3 c = search needs
-
-part-case-end-3 : tie.Need-part-case-end-3 Inv-loop μ-loop
-part-case-end-3 c = search needs
-
-sub-case-4 : tie.Need-sub-case-4 Inv-loop μ-loop
-sub-case-4 c = search needs
-
-part-case-start-4 : tie.Need-part-case-start-4 Inv-loop μ-loop
-part-case-start-4 c = search needs
-
-part-case-end-4 : tie.Need-part-case-end-4 Inv-loop μ-loop
-part-case-end-4 c = search needs
-
-sub-case-5 : tie.Need-sub-case-5 Inv-loop μ-loop
-sub-case-5 c = search needs
-
-part-case-start-5 : tie.Need-part-case-start-5 Inv-loop μ-loop
-part-case-start-5 c = search needs
-
-part-case-end-5 : tie.Need-part-case-end-5 Inv-loop μ-loop
-part-case-end-5 c = search needs
+heading-requires : tie.Need-heading-requires Inv-loop μ-loop
+heading-requires c κs = search needs
 
 case-requires : tie.Need-case-requires Inv-loop μ-loop
 case-requires c κs = search needs
@@ -101,21 +62,8 @@ lines-spec =
     noted-requires-2
     noted-requires-3
     noted-requires-4
-    sub-case
-    part-case-start
-    part-case-end
-    sub-case-2
-    part-case-start-2
-    part-case-end-2
-    sub-case-3
-    part-case-start-3
-    part-case-end-3
-    sub-case-4
-    part-case-start-4
-    part-case-end-4
-    sub-case-5
-    part-case-start-5
-    part-case-end-5
+    byte-at-requires
+    heading-requires
     case-requires
     find-requires
     add-at

@@ -1,22 +1,45 @@
--- The length stays. Assumes nothing.
-use mathlib.Core.Path.{_≡_}
-use Prim.Native.Nat.{_-_}
+-- The length stays, so that the number told counts bytes of the list. Assumes nothing.
+use mathlib.Core.Path.{_≡_, sym}
+use Prim.Native.Nat.{_≤_, _-_}
+use native.Mathlib.Omega.{arith}
 use lib.ListN.{length}
+use lib.Seq.{length-take-le}
 use borrow.Author.Needs.{needs}
 use Rattle.cases.proofs.item.fill.Statement.{statement}
 use Rattle.cases.proofs.item.fill.Tie as tie
 
 abbrev Inv-loop : tie.InvT-loop
-Inv-loop line list₀ i₀ list i = length list ≡ length list₀
+Inv-loop text line list₀ first unit n i₀ list i = (length list ≡ length list₀) × (n ≤ length list₀)
 
 abbrev μ-loop : tie.MeasureT-loop
-μ-loop line list₀ i₀ list i = length list₀ - i
+μ-loop text line list₀ first unit n i₀ list i = n - i
+
+given-requires : tie.Need-given-requires Inv-loop μ-loop
+given-requires c κs = search needs
+
+add-pair : tie.Need-add-pair Inv-loop μ-loop
+add-pair c = search needs
+
+pair-requires : tie.Need-pair-requires Inv-loop μ-loop
+pair-requires c κs = search needs
+
+wide-requires : tie.Need-wide-requires Inv-loop μ-loop
+wide-requires c κs = search needs
+
+size-requires : tie.Need-size-requires Inv-loop μ-loop
+size-requires c κs = search needs
 
 loop-holds : tie.Need-loop-holds Inv-loop μ-loop
 loop-holds c = search needs
 
-byte-of-requires : tie.Need-byte-of-requires Inv-loop μ-loop
-byte-of-requires c κs = search needs
+read-requires : tie.Need-read-requires Inv-loop μ-loop
+read-requires c κs = search needs
+
+sub-b : tie.Need-sub-b Inv-loop μ-loop
+sub-b c = search needs
+
+slice-read-b : tie.Need-slice-read-b Inv-loop μ-loop
+slice-read-b c = search needs
 
 slice-write-list : tie.Need-slice-write-list Inv-loop μ-loop
 slice-write-list c = search needs
@@ -34,7 +57,7 @@ same-length : tie.Need-same-length Inv-loop μ-loop
 same-length c = search needs
 
 returns : tie.Need-returns Inv-loop μ-loop
-returns c = search needs
+returns c = (omega arith, sym (length-take-le _ _ (omega arith)))
 
 pub fill-spec : {M : Type 1} → statement M
 fill-spec =
@@ -42,8 +65,15 @@ fill-spec =
     (tie.spec
     Inv-loop
     μ-loop
+    given-requires
+    add-pair
+    pair-requires
+    wide-requires
+    size-requires
     loop-holds
-    byte-of-requires
+    read-requires
+    sub-b
+    slice-read-b
     slice-write-list
     add-i
     loop-less

@@ -2,14 +2,14 @@
 use Prim.Native.Nat.{_-_}
 use lib.ListN.{length}
 use borrow.Author.Needs.{needs}
-use Rattle.cases.proofs.item.changed.Statement.{statement}
-use Rattle.cases.proofs.item.changed.Tie as tie
+use Rattle.cases.proofs.say.changed.Statement.{statement}
+use Rattle.cases.proofs.say.changed.Tie as tie
 
 abbrev Inv-loop : tie.InvT-loop
-Inv-loop line list last₀ i₀ last i = Unit {0}
+Inv-loop was list last₀ i₀ last i = Unit {0}
 
 abbrev μ-loop : tie.MeasureT-loop
-μ-loop line list last₀ i₀ last i = length list - i
+μ-loop was list last₀ i₀ last i = length list - i
 
 loop-holds : tie.Need-loop-holds Inv-loop μ-loop
 loop-holds c = tt
@@ -17,8 +17,8 @@ loop-holds c = tt
 shared-slice-read-if1 : tie.Need-shared-slice-read-if1 Inv-loop μ-loop
 shared-slice-read-if1 c = search needs
 
-byte-of-requires : tie.Need-byte-of-requires Inv-loop μ-loop
-byte-of-requires c κs = search needs
+byte-at-requires : tie.Need-byte-at-requires Inv-loop μ-loop
+byte-at-requires c κs = search needs
 
 add-last : tie.Need-add-last Inv-loop μ-loop
 add-last c = search needs
@@ -43,7 +43,7 @@ changed-spec =
     μ-loop
     loop-holds
     shared-slice-read-if1
-    byte-of-requires
+    byte-at-requires
     add-last
     add-i
     loop-less

@@ -1,8 +1,8 @@
 -- Nothing is known of the turns but that they end. Assumes nothing.
 use Prim.Native.Nat.{_-_}
 use borrow.Author.Needs.{needs}
-use Rattle.cases.proofs.say.bytes.Statement.{statement}
-use Rattle.cases.proofs.say.bytes.Tie as tie
+use Rattle.cases.proofs.say.shown.Statement.{statement}
+use Rattle.cases.proofs.say.shown.Tie as tie
 
 abbrev Inv-loop : tie.InvT-loop
 Inv-loop text list n i₀ i = Unit {0}
@@ -10,11 +10,8 @@ Inv-loop text list n i₀ i = Unit {0}
 abbrev μ-loop : tie.MeasureT-loop
 μ-loop text list n i₀ i = n - i
 
-slice-aggregate-write-all : tie.Need-slice-aggregate-write-all Inv-loop μ-loop
-slice-aggregate-write-all c = search needs
-
-write-all-requires : tie.Need-write-all-requires Inv-loop μ-loop
-write-all-requires c κs = search needs
+put-requires : tie.Need-put-requires Inv-loop μ-loop
+put-requires c κs = search needs
 
 loop-holds : tie.Need-loop-holds Inv-loop μ-loop
 loop-holds c = tt
@@ -25,11 +22,8 @@ byte-at-requires c κs = search needs
 returns : tie.Need-returns Inv-loop μ-loop
 returns c = search needs
 
-slice-aggregate-write-all-2 : tie.Need-slice-aggregate-write-all-2 Inv-loop μ-loop
-slice-aggregate-write-all-2 c = search needs
-
-write-all-requires-2 : tie.Need-write-all-requires-2 Inv-loop μ-loop
-write-all-requires-2 c κs = search needs
+put-requires-2 : tie.Need-put-requires-2 Inv-loop μ-loop
+put-requires-2 c κs = search needs
 
 cast-print-hex : tie.Need-cast-print-hex Inv-loop μ-loop
 cast-print-hex c = search needs
@@ -49,19 +43,17 @@ loop-again c = tt
 returns-2 : tie.Need-returns-2 Inv-loop μ-loop
 returns-2 c = search needs
 
-pub bytes-spec : {M : Type 1} → statement M
-bytes-spec =
+pub shown-spec : {M : Type 1} → statement M
+shown-spec =
     tie.close
     (tie.spec
     Inv-loop
     μ-loop
-    slice-aggregate-write-all
-    write-all-requires
+    put-requires
     loop-holds
     byte-at-requires
     returns
-    slice-aggregate-write-all-2
-    write-all-requires-2
+    put-requires-2
     cast-print-hex
     print-hex-requires
     add-i

@@ -1,0 +1,2 @@
+-- Letters: text a table of cases, at and line the place where a line of it begins.
+pub mod Table
