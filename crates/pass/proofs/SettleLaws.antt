@@ -1,122 +1,190 @@
--- The loop of `settle` over v's children, a turn at a time: at child c, the block has walked its children below c. Assumes nothing.
+-- The loop of `settle` over v's children, a turn at a time: what is left of the walk says what the whole says. Assumes nothing.
 use mathlib.Core.Path.{_≡_, refl, sym, _∙_, ap}
-use mathlib.Core.Bool.{Bool, true, false, not}
+use mathlib.Core.Bool.{Bool, true, false, cond, false≢true}
+use mathlib.Core.List.{List, [], _∷_}
 use mathlib.Core.Logic.{_⊎_, inl, inr, ⊎-elim}
-use mathlib.Core.List.{List, [], _∷_, _++_}
-use Prim.Native.Nat.{ℕ, zero, suc, _+_, _*_, _-_, _/_, _≤_, _<_}
+use Prim.Native.Nat.{ℕ, zero, suc, _+_, _*_, _-_, _≤_, _<_}
+use native.Mathlib.Numerals.{add-one}
 use native.Mathlib.Omega.{arith}
 use lib.Dec.{eqb}
 use lib.ListN.{length, getD, set, length-set}
-use borrow.Author.Tests.{eqb-true, eq-eqb, ne-eqb, not-true, not-false}
-use Rattle.lists.proofs.Logic.{cases, decided}
-use Rattle.plan.specs.Plan.{Kind, task, kindOf, size, kindByte, kind, parent, childrenBelow, children}
-use Rattle.plan.proofs.PlanLaws.{children-none, children-yes}
-use Rattle.pass.specs.Pass.{Settled, Tally, Walked, goes, skip, note, childMark, noted, meetBy, meet, walk, nothing, unwalked, oneOrTwo, badAnswer, badPick, closes, ending, endOf, close, settleIf, settleBy, settle}
-use Rattle.pass.specs.Pass
-use Rattle.pass.specs.Values.{outcomeOf, taskEnd, Ready, nextChild, linkAt, Linked, Settles}
-use Rattle.pass.specs.declared.Outcome.{Outcome}
-use Rattle.pass.specs.declared.Outcome.the-variants.{Fault}
-use Rattle.pass.proofs.LinkLaws.{Jump, jump}
+use borrow.Author.Tests.{eqb-true, eqb-false, eq-eqb, ne-eqb}
+use Rattle.lists.proofs.Logic.{cases, decided, and-left, and-right}
+use Rattle.plan.specs.Plan.{Kind, task, xor, conditional, kindNumber, isKind, kindOf, size, kindByte, kind}
+use Rattle.plan.proofs.PlanLaws.{Child}
+use Rattle.plan.proofs.KindLaws.{kind-task}
+use Rattle.pass.specs.Pass.{Settled, Tally, Walked, goes, goesBy, skip, note, childMark, noted, meetBy, meet, walk, nothing, unwalked, oneOrTwo, badAnswer, badPick, closes, ending, endOf, close, settleIf, settleBy, settle}
+use Rattle.pass.specs.Values.{outcomeOf, taskEnd, counted, soFar, comesTo, saysNo, doneBy, endsAs, Ready, Block, childrenFrom, ledTo, Linked, Settles}
+use Rattle.pass.proofs.BlockLaws.{wrong-answer, note-places, Seen, seen-none, seen-more, Ends, seen-end, end-fault, mark-place, late, Over, end-late, fault-ends, over-fault, over-done, goes-on, begins-on}
+use Rattle.pass.proofs.TableLaws.{block-kind, is-conditional}
+use Rattle.pass.proofs.LinkLaws.{from-all, led-none, led-some, led-child}
 
 abbrev walked : Tally → List ℕ → Walked
 walked t m = record { tally = t; marks = m }
 
-walk-more : (f : ℕ → List ℕ → Settled) (k : Kind) (x : ℕ) (cs : List ℕ) (c : ℕ) (w : Walked) →
-    walk f k x (cs ++ (c ∷ [])) w ≡ meet f k x (walk f k x cs w) c
-unfolding walk
-walk-more f k x [] c w = refl
-walk-more f k x (d ∷ cs) c w = walk-more f k x cs c (meet f k x w d)
+-- children that are not reached change nothing
+pass-by : (f : ℕ → List ℕ → Settled) (k : Kind) (x : ℕ) (w : Walked) (c : ℕ) → goes k x (w .tally) ≡ false → meet f k x w c ≡ walked (skip (w .tally)) (w .marks)
+unfolding meet meetBy
+pass-by f k x w c e = rw e
 
-note-places : (x : ℕ) (t : Tally) (o : Pass.Outcome) → note x t o .places ≡ suc (t .places)
-unfolding note
-note-places x t Pass.works = refl
-note-places x t Pass.breaks = refl
-note-places x t (Pass.fault n) = refl
+walk-late : (f : ℕ → List ℕ → Settled) (k : Kind) (x : ℕ) (t : Tally) → Over k x t → (cs : List ℕ) (n : ℕ) (m : List ℕ) → t .places ≤ n →
+    close k x (walk f k x cs (walked (late n t) m)) ≡ record { outcome = endOf k x t; marks = m }
+unfolding walk skip late close
+walk-late f k x t over [] n m l = rw (end-late k x n t)
+walk-late f k x t over (c ∷ cs) n m l =
+    ap (λ w. close k x (walk f k x cs w)) (pass-by f k x (walked (late n t) m) c (over n l)) ∙ walk-late f k x t over cs (suc n) m (omega arith)
 
--- node v with kind k and answer x, which is right; n is the node count
-pub record Block (p a f s m₀ : List ℕ) (v k x n : ℕ) : Type 0 where
+walk-over : (f : ℕ → List ℕ → Settled) (k : Kind) (x : ℕ) (t : Tally) → Over k x t → (cs : List ℕ) (m : List ℕ) →
+    close k x (walk f k x cs (walked t m)) ≡ record { outcome = endOf k x t; marks = m }
+unfolding late
+walk-over f k x t over cs m = walk-late f k x t over cs (t .places) m (omega arith)
+
+-- node v is a block of kind k with answer x, which is right
+pub record Begun (p a f s m₀ : List ℕ) (v k x : ℕ) : Type 0 where
   pub ready : Ready p a m₀ v
-  pub linked : Linked p f s
+  pub links : Linked p f s
   pub kind-is : kindOf k ≡ kind p v
   pub answer-is : x ≡ getD a v 0
-  pub size-is : n ≡ size p
   pub right : badAnswer (kindOf k) x ≡ 0
+  pub block : kindOf k ≡ task → ⊥
 
--- v's children below c left the tally t and the marks m; c is a child of v, or the node count
-pub record Walking (p a f s m₀ : List ℕ) (v k x n : ℕ) (m : List ℕ) (t : Tally) (c : ℕ) : Type 0 where
-  pub block : Block p a f s m₀ v k x n
-  pub low : 0 < c
-  pub high : c ≤ size p
-  pub of : c < size p → parent p c ≡ v
+-- the block's state behind n children is e, and the marks are m; the link c leads to the other children, the first of which is reached
+pub record Walking (p a f s m₀ : List ℕ) (v k x : ℕ) (m : List ℕ) (e n c : ℕ) : Type 0 where
+  pub begun : Begun p a f s m₀ v k x
+  pub tally : Tally
+  pub seen : Seen (kindOf k) tally e
+  pub places : isKind xor (kindOf k) ≡ true → n ≡ tally .places
+  pub child : (c ≡ 0 → ⊥) → Child p v c × (n < c) × (goes (kindOf k) x tally ≡ true)
   pub long : length m ≡ size p
-  pub few : t .places < c
-  pub so-far : (fuel : ℕ) → size p ≤ v + suc fuel → walk (settle p a fuel) (kindOf k) x (childrenBelow p c v) (unwalked m₀) ≡ walked t m
+  pub so-far : (fuel : ℕ) → size p ≤ v + suc fuel → settle p a (suc fuel) v m₀ ≡ close (kindOf k) x (walk (settle p a fuel) (kindOf k) x (ledTo p v c) (walked tally m))
 
--- from d on to the next child c
-walk-on : {p a f s m₀ : List ℕ} {v k x n : ℕ} → Block p a f s m₀ v k x n → (m : List ℕ) (t : Tally) (d : ℕ) → 0 < d → d ≤ size p →
-    length m ≡ size p → t .places < d →
-    ((fuel : ℕ) → size p ≤ v + suc fuel → walk (settle p a fuel) (kindOf k) x (childrenBelow p d v) (unwalked m₀) ≡ walked t m) →
-    (c : ℕ) → c ≡ nextChild p v d → Walking p a f s m₀ v k x n m t c
-walk-on {p = p} {v = v} b m t d l h long few so-far c e =
-    let j = jump p v d l h c e in
-    record {
-      block = b;
-      low = omega (arith, j .low);
-      high = j .high;
-      of = j .of;
-      long = long;
-      few = omega (arith, j .low);
-      so-far = λ fuel g. rw (j .same) (so-far fuel g);
-    }
+module _ {p a f s m₀ : List ℕ} {v k x : ℕ} (b : Begun p a f s m₀ v k x) where
+  -- a block that came to e, with all children behind it
+  ended : (t : Tally) (m : List ℕ) (e z : ℕ) → Seen (kindOf k) t e → z ≡ endsAs (kindOf k) x e →
+      ((fuel : ℕ) → size p ≤ v + suc fuel → settle p a (suc fuel) v m₀ ≡ record { outcome = endOf (kindOf k) x t; marks = m }) → Settles p a m₀ v m z
+  ended t m e z h g all = record { by = go; least = rw g (end .least) }
+    where
+      end : Ends (endsAs (kindOf k) x e) (endOf (kindOf k) x t)
+      end = seen-end (kindOf k) x t e (b .block) h
 
+      go : (fuel : ℕ) → size p ≤ v + fuel → settle p a fuel v m₀ ≡ record { outcome = outcomeOf z; marks = m }
+      go zero l = absurd (omega (arith, b .ready .node))
+      go (suc fuel) l = all fuel l ∙ rw (g, end .is)
+
+  -- its children, from the first on
+  all-left : (fuel : ℕ) → settle p a (suc fuel) v m₀ ≡ close (kindOf k) x (walk (settle p a fuel) (kindOf k) x (ledTo p v (getD f v 0)) (unwalked m₀))
+  unfolding settle settleBy settleIf
+  all-left fuel = rw (← b .kind-is, ← b .answer-is, eq-eqb (badAnswer (kindOf k) x) 0 (b .right), from-all p v, b .links .child v (b .ready .node))
+
+  first-child : (getD f v 0 ≡ 0 → ⊥) → Child p v (getD f v 0) × (1 ≤ getD f v 0)
+  first-child n = led-child p v 1 (getD f v 0) (omega arith) (omega (arith, b .ready .node)) (b .links .child v (b .ready .node)) n
+
+  pub first-small : getD f v 0 < 160
+  first-small = cases (decided (eqb (getD f v 0) 0)) (λ e. omega (arith, eqb-true (getD f v 0) 0 e))
+      (λ e. omega (arith, first-child (eqb-false (getD f v 0) 0 e) .0 .high, b .ready .accepted .few))
+
+  pub begin-first : saysNo (kindOf k) x ≡ false → (e c : ℕ) → e ≡ soFar (kindOf k) nothing → c ≡ getD f v 0 → Walking p a f s m₀ v k x m₀ e 0 c
+  unfolding unwalked nothing
+  begin-first q e c g h = rw (g, h) (record {
+    begun = b;
+    tally = nothing;
+    seen = seen-none (kindOf k);
+    places = λ w. refl;
+    child = λ n. (first-child n .0, omega (arith, first-child n .1), begins-on x nothing (kindOf k) (b .block) q (b .right));
+    long = b .ready .marks;
+    so-far = λ fuel l. all-left fuel;
+  })
+
+  -- one child on, by its link
+  next-children : (c : ℕ) → Child p v c → childrenFrom p v (c + 1) ≡ ledTo p v (getD s c 0)
+  next-children c h = rw (h .of) at (b .links .sibling c (h .low) (h .high))
+
+  walk-on : (fuel c : ℕ) (w : Walked) → (c ≡ 0 → ⊥) → Child p v c →
+      walk (settle p a fuel) (kindOf k) x (ledTo p v c) w ≡ walk (settle p a fuel) (kindOf k) x (ledTo p v (getD s c 0)) (meet (settle p a fuel) (kindOf k) x w c)
+  unfolding walk
+  walk-on fuel c w n h = rw (led-some p v c n, next-children c h)
+
+  next-child : (c : ℕ) → Child p v c → (getD s c 0 ≡ 0 → ⊥) → Child p v (getD s c 0) × (c + 1 ≤ getD s c 0)
+  next-child c h n = led-child p v (c + 1) (getD s c 0) (omega arith) (omega (arith, h .high)) (next-children c h) n
+
+  -- a conditional that is answered by no passes its first child by
+  module _ (q : saysNo (kindOf k) x ≡ true) where
+    by-two : x ≡ 2
+    unfolding saysNo
+    by-two = eqb-true x 2 (and-right (isKind conditional (kindOf k)) (eqb x 2) q)
+
+    of-seven : k ≡ 7
+    unfolding saysNo
+    of-seven = eqb-true k 7 (sym (is-conditional k) ∙ and-left (isKind conditional (kindOf k)) (eqb x 2) q)
+
+    some-child : getD f v 0 ≡ 0 → ⊥
+    unfolding kindOf
+    some-child e =
+        let c : kindOf k ≡ conditional = rw of-seven in
+        let r = b .ready in
+        let z : _≡_ {A = ℕ} 0 2 = sym (ap length (from-all p v ∙ b .links .child v (r .node) ∙ led-none p v (getD f v 0) e)) ∙ r .accepted .two v (r .node) (sym (b .kind-is) ∙ c) in
+        omega arith
+
+    pub begin-second : (e c d : ℕ) → e ≡ soFar (kindOf k) nothing → c ≡ getD f v 0 → d ≡ getD s c 0 → Walking p a f s m₀ v k x m₀ e 0 d
+    unfolding unwalked nothing skip soFar goes goesBy isKind kindNumber kindOf
+    begin-second e c d g h i =
+        let ch = first-child some-child .0 in
+        rw (g, i, h) (record {
+          begun = b;
+          tally = skip nothing;
+          seen = record { is = rw of-seven; no-fault = refl; sound = λ w. absurd (false≢true w) };
+          places = λ w. absurd (false≢true (rw of-seven at w));
+          child = λ n. (next-child (getD f v 0) ch n .0, omega (arith, next-child (getD f v 0) ch n .1), rw (of-seven, by-two));
+          long = b .ready .marks;
+          so-far = λ fuel l. all-left fuel
+              ∙ ap (close (kindOf k) x) (walk-on fuel (getD f v 0) (unwalked m₀) some-child ch
+              ∙ ap (walk (settle p a fuel) (kindOf k) x (ledTo p v (getD s (getD f v 0) 0))) (pass-by (settle p a fuel) (kindOf k) x (unwalked m₀) (getD f v 0) (rw (of-seven, by-two))));
+        })
+
+-- the block of a node that is ready; bad is the fault of its answer, or 0
 module _ {p a m : List ℕ} {v : ℕ} (r : Ready p a m v) (bad : ℕ) (told : bad ≡ badAnswer (kindOf (getD p (2 * v) 0)) (getD a v 0)) where
-  pub walk-begins : bad ≡ 0 → (f s : List ℕ) → Linked p f s → (c : ℕ) → c ≡ linkAt f v (length p / 2) →
-      Walking p a f s m v (getD p (2 * v) 0) (getD a v 0) (length p / 2) m (record { places = 0; worked = false; broke = false; chosen = false; wrong = 0 }) c
-  unfolding size kind kindByte walk unwalked nothing
-  walk-begins e f s h c g = walk-on
-      (record { ready = r; linked = h; kind-is = refl; answer-is = refl; size-is = refl; right = sym told ∙ e })
-      m _ 1 (omega arith) (omega (arith, r .node)) (r .marks) (omega arith) (λ fuel q. rw (children-none p v)) c (g ∙ h .child v (r .node))
+  pub begun : Block p v → (f s : List ℕ) → Linked p f s → bad ≡ 0 → Begun p a f s m v (getD p (2 * v) 0) (getD a v 0)
+  unfolding kind kindByte
+  begun n f s l e = record { ready = r; links = l; kind-is = refl; answer-is = refl; right = sym told ∙ e; block = block-kind _ (r .accepted .low v (r .node)) (r .accepted .high v (r .node)) n }
 
   -- the node's own answer is wrong
-  pub settle-refused : (bad ≡ 0 → ⊥) → Settles p a m v m (Fault bad)
+  pub settle-refused : (bad ≡ 0 → ⊥) → Settles p a m v m bad
   unfolding settle settleBy settleIf kind kindByte
-  settle-refused e = record { by = go }
+  settle-refused e = record { by = go; least = omega (arith, is) }
     where
-      go : (fuel : ℕ) → size p ≤ v + fuel → settle p a fuel v m ≡ record { outcome = Pass.fault bad; marks = m }
+      is : bad ≡ 13
+      is = told ∙ wrong-answer (kindOf (getD p (2 * v) 0)) (getD a v 0) (λ q. e (told ∙ q))
+
+      go : (fuel : ℕ) → size p ≤ v + fuel → settle p a fuel v m ≡ record { outcome = outcomeOf bad; marks = m }
       go zero f = absurd (omega (arith, r .node))
-      go (suc fuel) f = rw (ne-eqb (badAnswer (kindOf (getD p (2 * v) 0)) (getD a v 0)) 0 (λ q. e (told ∙ q)), told)
+      go (suc fuel) f = rw (ne-eqb (badAnswer (kindOf (getD p (2 * v) 0)) (getD a v 0)) 0 (λ q. e (told ∙ q)), ← told, end-fault bad (omega (arith, is)))
 
 -- a task ends by its answer alone
 module _ (x : ℕ) where
-  task-right : (eqb x 1 ≡ true) ⊎ (eqb x 2 ≡ true) → (f : ℕ → List ℕ → Settled) (m : List ℕ) → settleBy task x f [] m ≡ record { outcome = taskEnd x; marks = m }
-  unfolding settleBy settleIf close walk unwalked nothing endOf ending badPick closes badAnswer oneOrTwo taskEnd
+  task-right : (eqb x 1 ≡ true) ⊎ (eqb x 2 ≡ true) → (f : ℕ → List ℕ → Settled) (m : List ℕ) → settleBy task x f [] m ≡ record { outcome = outcomeOf (taskEnd x); marks = m }
+  unfolding settleBy settleIf close walk unwalked nothing endOf ending badPick closes badAnswer oneOrTwo taskEnd outcomeOf
   task-right e f m = ⊎-elim (λ h. rw (eqb-true x 1 h)) (λ h. rw (eqb-true x 2 h)) e
 
-  module _ (e : eqb x 1 ≡ false) (h : eqb x 2 ≡ false) where
-    wrong : badAnswer task x ≡ 13
-    unfolding badAnswer oneOrTwo
-    wrong = rw (e, h)
+  neither : eqb x 1 ≡ false → eqb x 2 ≡ false → oneOrTwo x ≡ false
+  unfolding oneOrTwo
+  neither e h = rw (e, h)
 
-    ends : taskEnd x ≡ Pass.fault (badAnswer task x)
-    unfolding taskEnd
-    ends = rw (e, h, wrong)
+  task-wrong : eqb x 1 ≡ false → eqb x 2 ≡ false → (f : ℕ → List ℕ → Settled) (m : List ℕ) → settleBy task x f [] m ≡ record { outcome = outcomeOf (taskEnd x); marks = m }
+  unfolding settleBy settleIf badAnswer taskEnd outcomeOf
+  task-wrong e h f m = rw (neither e h, e, h) (rw (neither e h))
 
-    task-wrong : (f : ℕ → List ℕ → Settled) (m : List ℕ) → settleBy task x f [] m ≡ record { outcome = taskEnd x; marks = m }
-    unfolding settleBy settleIf
-    task-wrong f m = rw (ne-eqb (badAnswer task x) 0 (λ q. omega (arith, wrong)), ends)
+  task-least : 3 ≤ taskEnd x
+  unfolding taskEnd
+  task-least = cases (decided (eqb x 1)) (λ g. rw g (omega arith)) (λ g. cases (decided (eqb x 2)) (λ h. rw (g, h) (omega arith)) (λ h. rw (g, h) (omega arith)))
 
-task-kind : (p : List ℕ) (v : ℕ) → getD p (2 * v) 0 ≡ 1 → kind p v ≡ task
-unfolding kind kindByte kindOf
-task-kind p v e = rw e
-
-pub task-ends : {p a m : List ℕ} {v : ℕ} → Ready p a m v → getD p (2 * v) 0 ≡ 1 → (o : Outcome) → outcomeOf o ≡ taskEnd (getD a v 0) → Settles p a m v m o
-unfolding settle
-task-ends {p} {a} {m} {v} r is o e = record { by = go }
+pub task-ends : {p a m : List ℕ} {v : ℕ} → Ready p a m v → getD p (2 * v) 0 ≡ 1 → (o : ℕ) → o ≡ taskEnd (getD a v 0) → Settles p a m v m o
+unfolding settle kindByte
+task-ends {p} {a} {m} {v} r is o e = record { by = go; least = rw e (task-least (getD a v 0)) }
   where
     same : kind p v ≡ task
-    same = task-kind p v is
+    same = kind-task p v is
 
-    by : (f : ℕ → List ℕ → Settled) → settleBy task (getD a v 0) f [] m ≡ record { outcome = taskEnd (getD a v 0); marks = m }
+    by : (f : ℕ → List ℕ → Settled) → settleBy task (getD a v 0) f [] m ≡ record { outcome = outcomeOf (taskEnd (getD a v 0)); marks = m }
     by f = cases (decided (eqb (getD a v 0) 1)) (λ g. task-right (getD a v 0) (inl g) f m)
         (λ g. cases (decided (eqb (getD a v 0) 2)) (λ h. task-right (getD a v 0) (inr h) f m) (λ h. task-wrong (getD a v 0) g h f m))
 
@@ -125,81 +193,93 @@ task-ends {p} {a} {m} {v} r is o e = record { by = go }
     go (suc fuel) f = rw (e, same, r .accepted .tasks v (r .node) same) (by (settle p a fuel))
 
 -- a turn's bounds
-pub record Turn (p a s : List ℕ) (v : ℕ) (m : List ℕ) (t : Tally) (c : ℕ) : Type 0 where
+pub record Turn (p a : List ℕ) (v : ℕ) (m : List ℕ) (n c : ℕ) : Type 0 where
   pub within : c < size p
-  pub small : c ≤ 160
+  pub small : c < 160
   pub index : 2 * c < length p
   pub answered : c < length a
-  pub linked : c < length s
   pub written : c < length m
-  pub few : t .places < 255
+  pub few : n < 255
   pub falls : size p - c < size p - v
 
-module _ {p a f s m₀ : List ℕ} {v k x n : ℕ} {m : List ℕ} {t : Tally} {c : ℕ} (h : Walking p a f s m₀ v k x n m t c) where
-  module _ (l : c < n) where
-    pub turn-bounds : Turn p a s v m t c
+-- how much is left from a link on
+abbrev pub left : ℕ → ℕ → ℕ
+left n c = cond (eqb c 0) 0 (n - c)
+
+module _ {p a f s m₀ : List ℕ} {v k x : ℕ} {m : List ℕ} {e n c : ℕ} (h : Walking p a f s m₀ v k x m e n c) where
+  pub walk-long : length m ≡ length m₀
+  walk-long = h .long ∙ sym (h .begun .ready .marks)
+
+  pub turn-long : (m′ : List ℕ) (y : ℕ) → length m′ ≡ length m → length (set m′ c y) ≡ length m₀
+  turn-long m′ y e = length-set m′ c y ∙ e ∙ walk-long
+
+  pub walk-ends : c ≡ 0 → (z : ℕ) → z ≡ endsAs (kindOf k) x e → Settles p a m₀ v m z
+  unfolding walk close
+  walk-ends q z g = ended (h .begun) (h .tally) m e z (h .seen) g (λ fuel l. h .so-far fuel l ∙ rw (led-none p v c q))
+
+  module _ (l : c ≡ 0 → ⊥) where
+    pub turn-bounds : Turn p a v m n c
     turn-bounds =
-        let w : c < size p = omega (arith, h .block .size-is) in
-        let b = h .block .ready .accepted .below c (h .low) w in
+        let r = h .begun .ready in
+        let ch = h .child l .0 in
+        let b = r .accepted .below c (ch .low) (ch .high) in
         record {
-          within = w;
-          small = omega (arith, h .block .ready .accepted .few);
-          index = omega (arith, h .block .ready .accepted .even);
-          answered = omega (arith, h .block .ready .answers);
-          linked = omega (arith, h .block .linked .nexts);
-          written = omega (arith, h .long);
-          few = omega (arith, h .few, h .block .ready .accepted .few);
-          falls = omega (arith, h .of w);
+          within = ch .high;
+          small = omega (arith, ch .high, r .accepted .few);
+          index = omega (arith, ch .high, r .accepted .even);
+          answered = omega (arith, ch .high, r .answers);
+          written = omega (arith, ch .high, h .long);
+          few = omega (arith, h .child l .1, ch .high, r .accepted .few);
+          falls = omega (arith, ch .high, ch .of);
         }
 
-    pub turn-ready : Ready p a m c × Linked p f s
-    turn-ready =
-        let r = h .block .ready in
-        (record { accepted = r .accepted; answers = r .answers; marks = h .long; node = turn-bounds .within }, h .block .linked)
+    pub turn-ready : Ready p a m c
+    turn-ready = let r = h .begun .ready in record { accepted = r .accepted; answers = r .answers; marks = h .long; node = h .child l .0 .high }
 
-    -- c′ is what the link at c names
-    module _ (c′ : ℕ) (next : c′ ≡ linkAt s c n) where
-      again : (m′ : List ℕ) (t′ : Tally) → length m′ ≡ size p → t′ .places ≤ suc (t .places) →
-          ((fuel : ℕ) → size p ≤ v + suc fuel → meet (settle p a fuel) (kindOf k) x (walked t m) c ≡ walked t′ m′) →
-          Walking p a f s m₀ v k x n m′ t′ c′
-      again m′ t′ long few met =
-          let w = turn-bounds .within in
-          let e = h .of w in
-          walk-on (h .block) m′ t′ (c + 1) (omega arith) (omega arith) long (omega (arith, h .few))
-          (λ fuel g. rw (children-yes p c v (h .low) e)
-          (walk-more (settle p a fuel) (kindOf k) x (childrenBelow p c v) c (unwalked m₀) ∙ ap (λ w. meet (settle p a fuel) (kindOf k) x w c) (h .so-far fuel g) ∙ met fuel g))
-          c′ (next ∙ ap (linkAt s c) (h .block .size-is) ∙ h .block .linked .sibling c (h .low) w ∙ ap (λ u. nextChild p u (c + 1)) e)
+    pub turn-less : (c′ : ℕ) → c′ ≡ getD s c 0 → left (size p) c′ < left (size p) c
+    turn-less c′ q = rw (q, ne-eqb c 0 l) (cases (decided (eqb (getD s c 0) 0))
+        (λ g. rw g (omega (arith, turn-bounds .within)))
+        (λ g. rw g (omega (arith, next-child (h .begun) c (h .child l .0) (eqb-false (getD s c 0) 0 g) .1, turn-bounds .within))))
 
-      pub turn-less : n - c′ < n - c
-      turn-less =
-          let w = turn-bounds .within in
-          let j = jump p v (c + 1) (omega arith) (omega arith) c′ (next ∙ ap (linkAt s c) (h .block .size-is) ∙ h .block .linked .sibling c (h .low) w ∙ ap (λ u. nextChild p u (c + 1)) (h .of w)) in
-          omega (arith, j .low)
+    -- the child ended as o and left the marks m′, and its mark is y
+    module _ (o : ℕ) (m′ : List ℕ) (long : length m′ ≡ length m) (d : Settles p a m c m′ o) (y : ℕ) (mark : y ≡ childMark (kindOf k) x (counted n) (outcomeOf o)) where
+      abbrev t′ : Tally
+      t′ = note x (h .tally) (outcomeOf o)
 
-      pub turn-skip : (b : Bool) → b ≡ goes (kindOf k) x t → not b ≡ true → (t′ : Tally) → t′ ≡ skip t → Walking p a f s m₀ v k x n m t′ c′
-      unfolding meet meetBy skip
-      turn-skip b g nb t′ e = rw e (again m (skip t) (h .long) (omega arith) (λ fuel q. rw (← g, not-true b nb)))
+      mark-is : y ≡ childMark (kindOf k) x (h .tally) (outcomeOf o)
+      mark-is = mark ∙ mark-place (kindOf k) x n (h .tally) (outcomeOf o) (h .places)
 
-      -- the child ended as o, by a call of its own
-      pub turn-enter : (b : Bool) → b ≡ goes (kindOf k) x t → not b ≡ false → (o : Outcome) (m′ : List ℕ) → length m′ ≡ length m → Settles p a m c m′ o →
-          (y : ℕ) → y ≡ childMark (kindOf k) x t (outcomeOf o) → (t′ : Tally) → t′ ≡ note x t (outcomeOf o) →
-          Walking p a f s m₀ v k x n (set m′ c y) t′ c′
+      met : (fuel : ℕ) → size p ≤ v + suc fuel → settle p a (suc fuel) v m₀
+          ≡ close (kindOf k) x (walk (settle p a fuel) (kindOf k) x (ledTo p v (getD s c 0)) (walked t′ (set m′ c y)))
       unfolding meet meetBy noted
-      turn-enter b g nb o m′ long d y ey t′ et = rw (et, ey)
-          (again (set m′ c (childMark (kindOf k) x t (outcomeOf o))) (note x t (outcomeOf o)) (length-set m′ c _ ∙ long ∙ h .long)
-          (omega (arith, note-places x t (outcomeOf o)))
-          (λ fuel q. rw (← g, not-false b nb, d .by fuel (omega (arith, turn-bounds .falls)))))
+      met fuel g = h .so-far fuel g ∙ ap (close (kindOf k) x) (walk-on (h .begun) fuel c (walked (h .tally) m) l (h .child l .0)
+          ∙ ap (walk (settle p a fuel) (kindOf k) x (ledTo p v (getD s c 0))) (rw (h .child l .2, d .by fuel (omega (arith, turn-bounds .falls)), mark-is)))
 
-  pub walk-ends : n ≤ c → (o : Outcome) → outcomeOf o ≡ endOf (kindOf k) x t → Settles p a m₀ v m o
-  unfolding settle settleBy settleIf close children
-  walk-ends l o e = record { by = go }
-    where
-      b : Block p a f s m₀ v k x n
-      b = h .block
+      met-over : Over (kindOf k) x t′ → (fuel : ℕ) → size p ≤ v + suc fuel → settle p a (suc fuel) v m₀ ≡ record { outcome = endOf (kindOf k) x t′; marks = set m′ c y }
+      met-over over fuel g = met fuel g ∙ walk-over (settle p a fuel) (kindOf k) x t′ over (ledTo p v (getD s c 0)) (set m′ c y)
 
-      z : size p ≡ c
-      z = omega (arith, b .size-is, h .high)
+      pub turn-fault : 4 < o → Settles p a m₀ v (set m′ c y) o
+      turn-fault g = record { by = go; least = d .least }
+        where
+          go : (fuel : ℕ) → size p ≤ v + fuel → settle p a fuel v m₀ ≡ record { outcome = outcomeOf o; marks = set m′ c y }
+          go zero z = absurd (omega (arith, h .begun .ready .node))
+          go (suc fuel) z = met-over (over-fault (kindOf k) x (h .tally) o g) fuel z ∙ rw (fault-ends (kindOf k) x (h .tally) o g)
 
-      go : (fuel : ℕ) → size p ≤ v + fuel → settle p a fuel v m₀ ≡ record { outcome = outcomeOf o; marks = m }
-      go zero g = absurd (omega (arith, b .ready .node))
-      go (suc fuel) g = rw (e, ← b .kind-is, ← b .answer-is, eq-eqb (badAnswer (kindOf k) x) 0 (b .right), z) (ap (close (kindOf k) x) (h .so-far fuel g))
+      module _ (w : o ≤ 4) (st e′ : ℕ) (start : st ≡ soFar (kindOf k) nothing) (come : e′ ≡ comesTo st e y) where
+        seen′ : Seen (kindOf k) t′ e′
+        seen′ = rw come (seen-more (kindOf k) x (h .tally) e o st y (h .seen) (d .least) w start mark-is)
+
+        module _ (b : Bool) (told : b ≡ doneBy (kindOf k) x o) where
+          pub turn-done : b ≡ true → (z : ℕ) → z ≡ endsAs (kindOf k) x e′ → Settles p a m₀ v (set m′ c y) z
+          turn-done q z g = ended (h .begun) t′ (set m′ c y) e′ z seen′ g (met-over (over-done x (h .tally) (kindOf k) o (d .least) w (sym told ∙ q)))
+
+          pub turn-on : b ≡ false → (c′ : ℕ) → c′ ≡ getD s c 0 → Walking p a f s m₀ v k x (set m′ c y) e′ (n + 1) c′
+          turn-on q c′ g = rw g (record {
+            begun = h .begun;
+            tally = t′;
+            seen = seen′;
+            places = λ u. ap (λ q. q + 1) (h .places u) ∙ (add-one (h .tally .places) ∙ sym (note-places x (h .tally) (outcomeOf o)));
+            child = λ u. (next-child (h .begun) c (h .child l .0) u .0, omega (arith, next-child (h .begun) c (h .child l .0) u .1, h .child l .1), goes-on x (h .tally) (kindOf k) o (d .least) w (sym told ∙ q) (h .begun .right) (h .child l .2));
+            long = length-set m′ c y ∙ long ∙ h .long;
+            so-far = met;
+          })
