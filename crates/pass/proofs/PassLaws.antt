@@ -15,7 +15,7 @@ use Rattle.plan.specs.Check.{checkNumber}
 use Rattle.plan.proofs.Main.{check-exact}
 use Rattle.pass.specs.Pass.{numberOf, rootMark, passOf, pass, passed, passInto}
 use Rattle.pass.specs.Values.{outcomeOf, Ready, Settles}
-use Rattle.pass.proofs.BlockLaws.{worked-or-broke, end-fault}
+use Rattle.pass.proofs.StateLaws.{worked-or-broke, end-fault}
 
 -- the code's numbers: k of the plan's check, n its node count
 module _ (p a m : List ℕ) (k : ℕ) (told : k ≡ checkNumber p) where

@@ -7,7 +7,8 @@ use native.Mathlib.Omega.{arith}
 use lib.ListN.{length, getD}
 use Rattle.plan.specs.Plan.{size, kindByte}
 use Rattle.pass.specs.Values.{Settles}
-use Rattle.pass.proofs.SettleLaws.{Begun, begun, first-small, begin-first, begin-second, settle-refused, task-ends, Walking, Turn, left, walk-long, turn-long, walk-ends, turn-bounds, turn-ready, turn-less, turn-fault, turn-done, turn-on}
+use Rattle.pass.proofs.SettleLaws.{Begun, begun, settle-refused, task-ends}
+use Rattle.pass.proofs.WalkLaws.{first-small, begin-first, begin-second, Walking, Turn, left, walk-long, turn-long, walk-ends, turn-bounds, turn-ready, turn-less, turn-fault, turn-done, turn-on}
 use borrow.Fn.Kinds.{In}
 use borrow.Fn.PlainCycle.{Measures, is, falls, and}
 use Rattle.pass.proofs.settle.Reads as settle
