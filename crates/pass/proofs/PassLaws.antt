@@ -1,21 +1,21 @@
 -- The whole pass: what was refused before it, and how the settled root's marks are handed out. Assumes nothing.
-use mathlib.Core.Path.{_≡_, sym, _∙_, ap}
+use mathlib.Core.Path.{_≡_, refl, sym, _∙_, ap}
 use mathlib.Core.Bool.{not, cond, _&&_}
 use mathlib.Core.List.{List, [], _++_, append-nil}
-use Prim.Native.Nat.{ℕ, _+_, _≤_}
+use Prim.Native.Nat.{ℕ, _≤_, _<_}
 use native.Mathlib.Omega.{arith}
 use lib.Dec.{eqb}
 use lib.ListN.{length, set, take, drop, replicate, length-append, drop-of-length-le}
 use lib.Seq.{take-at, take-length}
 use borrow.Author.Tests.{eq-eqb, ne-eqb, eqb-true}
-use Rattle.lists.proofs.Logic.{and-left, and-right, and-join}
+use Rattle.lists.proofs.Logic.{cases, and-left, and-right, and-join}
 use Rattle.lists.proofs.Lent.{fresh-zeros, fresh-length}
 use Rattle.plan.specs.Plan.{size}
 use Rattle.plan.specs.Check.{fitNumber}
 use Rattle.plan.proofs.Main.{fit-exact}
 use Rattle.pass.specs.Pass.{numberOf, rootMark, passOf, pass, passed, passNumber, passInto}
-use Rattle.pass.specs.Values.{outcomeOf, Ready, Linked, Settles}
-use Rattle.pass.specs.declared.Outcome.{Outcome}
+use Rattle.pass.specs.Values.{outcomeOf, Ready, Settles}
+use Rattle.pass.proofs.StateLaws.{worked-or-broke, end-fault}
 
 -- k is what `fit` answered, n the node count
 module _ (p a m : List ℕ) (k n : ℕ) (count : n ≡ size p) (told : k ≡ fitNumber p (eqb (length a) n && eqb (length m) n)) where
@@ -40,19 +40,6 @@ blank n = take n (replicate 160 0)
 abbrev front : ℕ → List ℕ → List ℕ
 front n y = take n (y ++ drop n (replicate 160 0))
 
-module _ (n : ℕ) (y : List ℕ) (fills : length y ≡ n) where
-  held-is : front n y ≡ y
-  held-is = take-at y (drop n (replicate 160 0)) n fills
-
-  pub held-room : n ≤ length (y ++ drop {A = ℕ} n (replicate 160 0))
-  held-room = omega (arith, length-append y (drop n (replicate 160 0)), fills)
-
-  pub held-length : n ≡ length (front n y)
-  held-length = sym (ap length held-is ∙ fills)
-
-pub held-links : {p f s : List ℕ} {n : ℕ} → n ≡ size p → Linked p f s → Linked p (front n f) (front n s)
-held-links {f = f} {s = s} {n = n} e h = rw (held-is n f (h .firsts ∙ sym e), held-is n s (h .nexts ∙ sym e)) h
-
 module _ {p a m : List ℕ} (r : Ready p a m 0) (n : ℕ) (e : n ≡ size p) where
   pub blank-length : n ≡ length (blank n)
   blank-length = e ∙ sym (fresh-length 160 n (size p) e (r .accepted .few))
@@ -60,22 +47,34 @@ module _ {p a m : List ℕ} (r : Ready p a m 0) (n : ℕ) (e : n ≡ size p) whe
   pub blank-ready : Ready p a (blank n) 0
   blank-ready = record { accepted = r .accepted; answers = r .answers; marks = sym blank-length ∙ e; node = r .node }
 
+-- the end of the root is its mark or its fault's number
+root-works : (o : ℕ) → 3 ≤ o → o ≤ 4 → (numberOf (outcomeOf o) ≡ 0) × (rootMark (outcomeOf o) ≡ o)
+unfolding numberOf rootMark outcomeOf
+root-works o l h = cases (worked-or-broke o l h) (λ e. rw e (refl, refl)) (λ e. rw e (refl, refl))
+
+root-fault : (o : ℕ) → 4 < o → numberOf (outcomeOf o) ≡ o
+unfolding numberOf
+root-fault o l = rw (end-fault o l)
+
 -- the root was settled in the buffer's front, which left it as y, and ended as o
-pub record Root (p a m : List ℕ) (n : ℕ) (y : List ℕ) (o : Outcome) : Type 0 where
+pub record Root (p a m : List ℕ) (n : ℕ) (y : List ℕ) (o : ℕ) : Type 0 where
   pub ready : Ready p a m 0
   pub size-is : n ≡ size p
   pub settled : Settles p a (blank n) 0 y o
   pub long : length y ≡ length (blank n)
 
-module _ {p a m : List ℕ} {n : ℕ} {y : List ℕ} {o : Outcome} (root : Root p a m n y o) where
+module _ {p a m : List ℕ} {n : ℕ} {y : List ℕ} {o : ℕ} (root : Root p a m n y o) where
   fills : length y ≡ n
   fills = root .long ∙ sym (blank-length (root .ready) n (root .size-is))
 
+  front-is : front n y ≡ y
+  front-is = take-at y (drop n (replicate 160 0)) n fills
+
   pub front-room : n ≤ length (y ++ drop {A = ℕ} n (replicate 160 0))
-  front-room = held-room n y fills
+  front-room = omega (arith, length-append y (drop n (replicate 160 0)), fills)
 
   pub front-length : n ≡ length (front n y)
-  front-length = held-length n y fills
+  front-length = sym (ap length front-is ∙ fills)
 
   pub front-fits : length (front n y) ≤ length m
   front-fits = omega (arith, front-length, root .size-is, root .ready .marks)
@@ -86,21 +85,21 @@ module _ {p a m : List ℕ} {n : ℕ} {y : List ℕ} {o : Outcome} (root : Root 
       let r = root .ready in
       rw (fit-exact p _ .none .1 (r .accepted, and-join _ _ (eq-eqb (length a) (size p) (r .answers)) (eq-eqb (length m) (size p) (r .marks))))
 
-  module _ (k : ℕ) (told : k ≡ numberOf (outcomeOf o)) where
-    pass-is : pass p a ≡ passed k (set y 0 (rootMark (outcomeOf o)))
-    unfolding pass passOf
-    pass-is = rw (← fresh-zeros 160 n (size p) (root .size-is) (root .ready .accepted .few), root .settled .by (size p) (omega arith), told)
+  pass-is : pass p a ≡ passed (numberOf (outcomeOf o)) (set y 0 (rootMark (outcomeOf o)))
+  unfolding pass passOf
+  pass-is = rw (← fresh-zeros 160 n (size p) (root .size-is) (root .ready .accepted .few), root .settled .by (size p) (omega arith))
 
-    pub into-fault : (k ≡ 0 → ⊥) → passInto p a m ≡ passed k m
-    into-fault h = into-pass ∙ rw (pass-is, ne-eqb k 0 h)
+  pub into-fault : 4 < o → passInto p a m ≡ passed o m
+  into-fault h = into-pass ∙ rw (pass-is, root-fault o h, ne-eqb o 0 (λ e. omega arith))
 
-    -- s is m with the front copied over it
-    pub into-marks : k ≡ 0 → (s : List ℕ) → s ≡ take (length (front n y)) (front n y) ++ drop (length (front n y)) m →
-        (x : ℕ) → x ≡ rootMark (outcomeOf o) → passInto p a m ≡ passed 0 (set s 0 x)
-    into-marks h s f x g = into-pass ∙ rw (pass-is, h, same, g)
-      where
-        over : drop (length y) m ≡ []
-        over = drop-of-length-le m {i = length y} (omega (arith, fills, root .size-is, root .ready .marks))
+  -- s is m with the front copied over it
+  pub into-marks : o ≤ 4 → (s : List ℕ) → s ≡ take (length (front n y)) (front n y) ++ drop (length (front n y)) m → passInto p a m ≡ passed 0 (set s 0 o)
+  into-marks h s f =
+      let r = root-works o (root .settled .least) h in
+      into-pass ∙ rw (pass-is, r .0, r .1, same)
+    where
+      over : drop (length y) m ≡ []
+      over = drop-of-length-le m {i = length y} (omega (arith, fills, root .size-is, root .ready .marks))
 
-        same : s ≡ y
-        same = f ∙ rw (held-is n y fills, take-length y, over) (append-nil y)
+      same : s ≡ y
+      same = f ∙ rw (front-is, take-length y, over) (append-nil y)

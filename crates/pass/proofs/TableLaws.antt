@@ -1,6 +1,6 @@
--- The tables of specs/Pass.antt by the kind's byte. Assumes nothing.
+-- The tables of specs/Pass.antt and specs/Values.antt by the kind's byte. Assumes nothing.
 use mathlib.Core.Path.{_≡_, refl, sym, _∙_, ap}
-use mathlib.Core.Bool.{Bool, true, false, cond, _&&_, _||_, not, and-false, true≢false}
+use mathlib.Core.Bool.{true, false, cond, _&&_, not, and-false}
 use Prim.Native.Nat.{ℕ, _+_, _≤_, _<_}
 use native.Mathlib.Numerals.{add-one}
 use native.Mathlib.Omega.{arith}
@@ -9,9 +9,10 @@ use borrow.Author.Tests.{eq-eqb, ne-eqb, eqb-true, eqb-false}
 use Rattle.lists.proofs.Logic.{cases, decided}
 use Rattle.lists.specs.Seq.{upFrom}
 use Rattle.lists.proofs.Between.{between}
-use Rattle.plan.specs.Plan.{Kind, task, serial, and, or, xor, contingency, conditional, waiting, kindNumber, isKind, kindOf}
+use Rattle.plan.specs.Plan.{task, serial, xor, contingency, conditional, kindNumber, isKind, kindOf}
 use Rattle.plan.proofs.KindLaws.{is-kind, kind-other}
-use Rattle.pass.specs.Pass.{Outcome, works, breaks, fault, Tally, goesBy, goes, goodMark, note, childMark, oneOrTwo, badAnswer, badPick, closes, ending}
+use Rattle.pass.specs.Pass.{goodMark, childMark, oneOrTwo, badAnswer, nothing}
+use Rattle.pass.specs.Values.{outcomeOf, counted, soFar, saysNo, doneBy, endsAs}
 
 module _ (k a : ℕ) where
   pub answer-block : 2 ≤ k → k < 7 → 0 ≡ badAnswer (kindOf k) a
@@ -37,113 +38,110 @@ module _ (k a : ℕ) where
   unfolding oneOrTwo
   answer-wrong n m = sym (answer-other n ∙ rw (ne-eqb a 1 (λ e. m (omega arith) (omega arith)), ne-eqb a 2 (λ e. m (omega arith) (omega arith))))
 
-module _ (k a : ℕ) (t : Tally) where
-  pub goes-wrong : (t .wrong ≡ 0 → ⊥) → false ≡ goes (kindOf k) a t
-  unfolding goes
-  goes-wrong n = rw (ne-eqb (t .wrong) 0 n)
-
-  module _ (w : t .wrong ≡ 0) where
-    goes-at : (j : Kind) → kindOf k ≡ j → goesBy j a t ≡ goes (kindOf k) a t
-    unfolding goes
-    goes-at j e = rw (e, eq-eqb (t .wrong) 0 w)
-
-    pub goes-serial : k ≡ 2 → not (t .broke) ≡ goes (kindOf k) a t
-    unfolding goesBy kindOf
-    goes-serial e = goes-at serial (ap kindOf e)
-
-    pub goes-contingency : k ≡ 6 → not (t .worked) ≡ goes (kindOf k) a t
-    unfolding goesBy kindOf
-    goes-contingency e = goes-at contingency (ap kindOf e)
-
-    pub goes-first : k ≡ 7 → t .places ≡ 0 → eqb a 1 ≡ goes (kindOf k) a t
-    unfolding goesBy kindOf
-    goes-first e h = sym (rw (eq-eqb (t .places) 0 h)) ∙ goes-at conditional (ap kindOf e)
-
-    pub goes-second : k ≡ 7 → (t .places ≡ 0 → ⊥) → eqb a 2 ≡ goes (kindOf k) a t
-    unfolding goesBy kindOf
-    goes-second e h = sym (rw (ne-eqb (t .places) 0 h)) ∙ goes-at conditional (ap kindOf e)
-
-    pub goes-all : 3 ≤ k → k < 6 → true ≡ goes (kindOf k) a t
-    unfolding goesBy kindOf upFrom goes
-    goes-all l h = rw (eq-eqb (t .wrong) 0 w) (between (λ k. true) (λ k. goesBy (kindOf k) a t) 3 3 refl k l h)
-
-    pub goes-waiting : k ≡ 8 → true ≡ goes (kindOf k) a t
-    unfolding goesBy kindOf
-    goes-waiting e = goes-at waiting (ap kindOf e)
-
-    pub goes-low : k < 3 → (k ≡ 2 → ⊥) → false ≡ goes (kindOf k) a t
-    unfolding goesBy
-    goes-low l n = goes-at task (kind-other k (λ m h. n (omega arith)))
-
-    pub goes-high : 5 < k → (k ≡ 6 → ⊥) → (k ≡ 7 → ⊥) → (k ≡ 8 → ⊥) → false ≡ goes (kindOf k) a t
-    unfolding goesBy
-    goes-high l n m o = goes-at task (kind-other k (λ g h. omega arith))
-
-  pub closes-broke : 2 ≤ k → k < 4 → not (t .broke) ≡ closes (kindOf k) a t
-  unfolding closes kindOf upFrom
-  closes-broke l h = between (λ k. not (t .broke)) (λ k. closes (kindOf k) a t) 2 2 refl k l h
-
-  pub closes-worked : 4 ≤ k → k < 8 → t .worked ≡ closes (kindOf k) a t
-  unfolding closes kindOf upFrom
-  closes-worked l h = between (λ k. t .worked) (λ k. closes (kindOf k) a t) 4 4 refl k l h
-
-  pub closes-waiting : k ≡ 8 → not (t .broke) ≡ closes (kindOf k) a t
-  unfolding closes kindOf
-  closes-waiting e = rw e
-
-  pub closes-task : (2 ≤ k → k ≤ 8 → ⊥) → eqb a 1 ≡ closes (kindOf k) a t
-  unfolding closes
-  closes-task n = rw (kind-other k n)
-
-  pick-by : (j : Kind) → isKind xor j ≡ false → 0 ≡ badPick j a t
-  unfolding badPick isKind kindNumber
-  pick-by task e = refl
-  pick-by serial e = refl
-  pick-by and e = refl
-  pick-by or e = refl
-  pick-by xor e = absurd (true≢false e)
-  pick-by contingency e = refl
-  pick-by conditional e = refl
-  pick-by waiting e = refl
-
-  pub pick-other : (k ≡ 5 → ⊥) → 0 ≡ badPick (kindOf k) a t
+-- which kinds a byte has
+module _ (k : ℕ) where
+  is-serial : isKind serial (kindOf k) ≡ eqb k 2
   unfolding kindNumber
-  pick-other n = pick-by (kindOf k) (is-kind xor k (omega arith) ∙ ne-eqb k 5 n)
+  is-serial = is-kind serial k (omega arith)
 
-  pub pick-xor : (b : Bool) → k ≡ 5 → b ≡ cond (t .worked) (t .chosen) (eqb a 0) → cond b 0 14 ≡ badPick (kindOf k) a t
-  unfolding badPick kindOf
-  pick-xor b e h = rw (e, h)
+  is-xor : isKind xor (kindOf k) ≡ eqb k 5
+  unfolding kindNumber
+  is-xor = is-kind xor k (omega arith)
 
--- the first fault wins
-module _ (w x : ℕ) (b : Bool) where
-  pub ends-wrong : (w ≡ 0 → ⊥) → fault w ≡ ending w x b
-  unfolding ending
-  ends-wrong n = rw (ne-eqb w 0 n)
+  is-contingency : isKind contingency (kindOf k) ≡ eqb k 6
+  unfolding kindNumber
+  is-contingency = is-kind contingency k (omega arith)
 
-  pub ends-bad : w ≡ 0 → (x ≡ 0 → ⊥) → fault x ≡ ending w x b
-  unfolding ending
-  ends-bad e n = rw (eq-eqb w 0 e, ne-eqb x 0 n)
+  pub is-conditional : isKind conditional (kindOf k) ≡ eqb k 7
+  unfolding kindNumber
+  is-conditional = is-kind conditional k (omega arith)
 
-  pub ends-well : w ≡ 0 → x ≡ 0 → cond b works breaks ≡ ending w x b
-  unfolding ending
-  ends-well e f = rw (eq-eqb w 0 e, eq-eqb x 0 f)
+  pub block-kind : 1 ≤ k → k ≤ 8 → (k ≡ 1 → ⊥) → kindOf k ≡ task → ⊥
+  unfolding kindNumber kindOf upFrom
+  block-kind l h n e =
+      let q = between (λ k. kindNumber (kindOf k)) (λ k. k) 2 7 refl k (omega arith) (omega arith) in
+      n (sym q ∙ ap kindNumber e)
 
--- a child that works
-module _ (a : ℕ) (t : Tally) (o : Outcome) (e : o ≡ works) where
-  pub note-works : (b : Bool) → b ≡ (t .chosen || eqb (t .places + 1) a) →
-      record { places = t .places + 1; worked = true; broke = t .broke; chosen = b; wrong = t .wrong } ≡ note a t o
-  unfolding note
-  note-works b h = rw (e, h, add-one)
+  pub first-works : 2 ≤ k → k < 4 → 3 ≡ soFar (kindOf k) nothing
+  unfolding soFar nothing kindOf upFrom
+  first-works l h = between (λ k. 3) (λ k. soFar (kindOf k) nothing) 2 2 refl k l h
 
-  mark-works : (k : ℕ) → childMark (kindOf k) a t o ≡ cond (eqb k 5 && not (eqb (t .places + 1) a)) 5 3
-  unfolding childMark goodMark kindNumber
-  mark-works k = rw (e, is-kind xor k (omega arith), add-one)
+  pub first-waiting : k ≡ 8 → 3 ≡ soFar (kindOf k) nothing
+  unfolding soFar nothing kindOf
+  first-waiting e = rw e
 
-  pub mark-down : (k : ℕ) → k ≡ 5 → not (eqb (t .places + 1) a) ≡ true → 5 ≡ childMark (kindOf k) a t o
-  mark-down k f h = sym (mark-works k ∙ rw (eq-eqb k 5 f, h))
+  pub first-breaks : 4 ≤ k → k < 8 → 4 ≡ soFar (kindOf k) nothing
+  unfolding soFar nothing kindOf upFrom
+  first-breaks l h = between (λ k. 4) (λ k. soFar (kindOf k) nothing) 4 4 refl k l h
 
-  pub mark-picked : (k : ℕ) → not (eqb (t .places + 1) a) ≡ false → 3 ≡ childMark (kindOf k) a t o
-  mark-picked k h = sym (mark-works k ∙ rw (h, and-false (eqb k 5)))
+  pub first-other : (2 ≤ k → k ≤ 8 → ⊥) → 4 ≡ soFar (kindOf k) nothing
+  unfolding soFar nothing
+  first-other n = rw (kind-other k n)
 
-  pub mark-plain : (k : ℕ) → (k ≡ 5 → ⊥) → 3 ≡ childMark (kindOf k) a t o
-  mark-plain k n = sym (mark-works k ∙ rw (ne-eqb k 5 n))
+  pub no-seven : (a : ℕ) → k ≡ 7 → eqb a 2 ≡ saysNo (kindOf k) a
+  unfolding saysNo
+  no-seven a e = rw (is-conditional, eq-eqb k 7 e)
+
+  pub no-other : (a : ℕ) → (k ≡ 7 → ⊥) → eqb k 7 ≡ saysNo (kindOf k) a
+  unfolding saysNo
+  no-other a n = rw (is-conditional, ne-eqb k 7 n)
+
+  -- o is how the child ended
+  module _ (a o : ℕ) where
+    pub done-serial : k ≡ 2 → eqb o 4 ≡ doneBy (kindOf k) a o
+    unfolding doneBy
+    done-serial e = rw (is-serial, eq-eqb k 2 e)
+
+    pub done-contingency : k ≡ 6 → eqb o 3 ≡ doneBy (kindOf k) a o
+    unfolding doneBy
+    done-contingency e = rw (is-serial, is-contingency, e)
+
+    pub done-conditional : k ≡ 7 → eqb a 1 ≡ doneBy (kindOf k) a o
+    unfolding doneBy
+    done-conditional e = rw (is-serial, is-contingency, is-conditional, e)
+
+    pub done-never : (k ≡ 2 → ⊥) → (k ≡ 6 → ⊥) → (k ≡ 7 → ⊥) → false ≡ doneBy (kindOf k) a o
+    unfolding doneBy
+    done-never n m l = rw (is-serial, is-contingency, is-conditional, ne-eqb k 2 n, ne-eqb k 6 m, ne-eqb k 7 l)
+
+    -- n is how many children are before it
+    module _ (n : ℕ) where
+      mark-works : o ≡ 3 → childMark (kindOf k) a (counted n) (outcomeOf o) ≡ cond (eqb k 5 && not (eqb (n + 1) a)) 5 3
+      unfolding childMark goodMark counted outcomeOf
+      mark-works e = rw (e, is-xor, add-one)
+
+      pub mark-down : o ≡ 3 → k ≡ 5 → not (eqb (n + 1) a) ≡ true → 5 ≡ childMark (kindOf k) a (counted n) (outcomeOf o)
+      mark-down e f h = sym (mark-works e ∙ rw (eq-eqb k 5 f, h))
+
+      pub mark-picked : o ≡ 3 → not (eqb (n + 1) a) ≡ false → 3 ≡ childMark (kindOf k) a (counted n) (outcomeOf o)
+      mark-picked e h = sym (mark-works e ∙ rw (h, and-false (eqb k 5)))
+
+      pub mark-plain : o ≡ 3 → (k ≡ 5 → ⊥) → 3 ≡ childMark (kindOf k) a (counted n) (outcomeOf o)
+      mark-plain e m = sym (mark-works e ∙ rw (ne-eqb k 5 m))
+
+      pub mark-broke : o ≡ 4 → 4 ≡ childMark (kindOf k) a (counted n) (outcomeOf o)
+      unfolding childMark outcomeOf
+      mark-broke e = rw e
+
+      pub mark-fault : (o ≡ 3 → ⊥) → (o ≡ 4 → ⊥) → 0 ≡ childMark (kindOf k) a (counted n) (outcomeOf o)
+      unfolding childMark outcomeOf
+      mark-fault e f = rw (ne-eqb o 3 e, ne-eqb o 4 f)
+
+  -- e is what the block came to
+  module _ (a e : ℕ) where
+    pub ends-plain : (k ≡ 5 → ⊥) → e ≡ endsAs (kindOf k) a e
+    unfolding endsAs
+    ends-plain n = rw (is-xor, ne-eqb k 5 n)
+
+    pub ends-picked : e ≡ 3 → e ≡ endsAs (kindOf k) a e
+    unfolding endsAs
+    ends-picked h = rw (eq-eqb e 3 h, and-false)
+
+    module _ (x : k ≡ 5) (n : e ≡ 3 → ⊥) where
+      pub ends-empty : e ≡ 4 → a ≡ 0 → 4 ≡ endsAs (kindOf k) a e
+      unfolding endsAs
+      ends-empty f z = rw (is-xor, x, f, z)
+
+      pub ends-wrong : (eqb e 4 && eqb a 0) ≡ false → 14 ≡ endsAs (kindOf k) a e
+      unfolding endsAs
+      ends-wrong h = rw (is-xor, eq-eqb k 5 x, ne-eqb e 3 n, h)

@@ -1,28 +1,53 @@
--- The code's enum and struct as values of specs/Pass.antt, the links between children, and what `settle` takes and leaves. Definitions only.
+-- The code's bytes as values of specs/Pass.antt, the links between children, and what `settle` takes and leaves. Definitions only.
 use mathlib.Core.Path.{_≡_}
-use mathlib.Core.Bool.{cond}
-use mathlib.Core.List.{List}
-use Prim.Native.Nat.{ℕ, zero, suc, _+_, _-_, _≤_, _<_}
+use mathlib.Core.Bool.{Bool, false, cond, _&&_, not}
+use mathlib.Core.List.{List, [], _∷_}
+use Prim.Native.Nat.{ℕ, _+_, _-_, _≤_, _<_}
 use lib.Dec.{eqb}
 use lib.ListN.{length, getD}
-use Rattle.plan.specs.Plan.{size, parent}
+use Rattle.lists.specs.Seq.{keep, upFrom}
+use Rattle.plan.specs.Plan.{Kind, task, serial, and, or, xor, contingency, conditional, waiting, isKind, size, kindByte, parent}
 use Rattle.plan.specs.Check.{Accepted}
-use Rattle.pass.specs.Pass
-use Rattle.pass.specs.declared.Outcome.{Outcome}
-use Rattle.pass.specs.declared.Outcome.the-variants.{Works, Breaks, Fault}
-use Rattle.pass.specs.declared.Tally.{Tally}
+use Rattle.pass.specs.Pass.{Outcome, works, breaks, fault, Tally, settle}
 
-abbrev pub outcomeOf : Outcome → Pass.Outcome
-outcomeOf Works = Pass.works
-outcomeOf Breaks = Pass.breaks
-outcomeOf (Fault n) = Pass.fault n
-
-abbrev pub tallyOf : Tally → Pass.Tally
-tallyOf t = record { places = t .places; worked = t .worked; broke = t .broke; chosen = t .chosen; wrong = t .wrong }
+-- how a node ended, by its byte
+unfoldable pub outcomeOf : ℕ → Outcome
+outcomeOf o = cond (eqb o 3) works (cond (eqb o 4) breaks (fault o))
 
 -- F1, F5: the end of a task, by its answer
-unfoldable pub taskEnd : ℕ → Pass.Outcome
-taskEnd a = cond (eqb a 1) Pass.works (cond (eqb a 2) Pass.breaks (Pass.fault 13))
+unfoldable pub taskEnd : ℕ → ℕ
+taskEnd a = cond (eqb a 1) 3 (cond (eqb a 2) 4 13)
+
+-- so many children, of which nothing is known
+unfoldable pub counted : ℕ → Tally
+counted n = record { places = n; worked = false; broke = false; chosen = false; wrong = 0 }
+
+-- what a block comes to by its tally: 3 it works, 4 it breaks, 5 children of an xor offer, but not the picked one
+unfoldable pub soFar : Kind → Tally → ℕ
+soFar task t = cond (t .worked) 3 4
+soFar serial t = cond (t .broke) 4 3
+soFar and t = cond (t .broke) 4 3
+soFar or t = cond (t .worked) 3 4
+soFar xor t = cond (t .worked) (cond (t .chosen) 3 5) 4
+soFar contingency t = cond (t .worked) 3 4
+soFar conditional t = cond (t .worked) 3 4
+soFar waiting t = cond (t .broke) 4 3
+
+-- what a block that came to e, and to s at first, comes to after a child with mark m: a mark other than s turns it, but 5 not from 3
+unfoldable pub comesTo : ℕ → ℕ → ℕ → ℕ
+comesTo s e m = cond (eqb m 5) (cond (eqb e 4) 5 e) (cond (eqb m s) e m)
+
+-- a conditional is answered by no
+unfoldable pub saysNo : Kind → ℕ → Bool
+saysNo k a = isKind conditional k && eqb a 2
+
+-- F2: a block with answer a reaches no child behind one that ended as o
+unfoldable pub doneBy : Kind → ℕ → ℕ → Bool
+doneBy k a o = cond (isKind serial k) (eqb o 4) (cond (isKind contingency k) (eqb o 3) (isKind conditional k && eqb a 1))
+
+-- F3, F5: the end of a block that came to e
+unfoldable pub endsAs : Kind → ℕ → ℕ → ℕ
+endsAs k a e = cond (isKind xor k && not (eqb e 3)) (cond (eqb e 4 && eqb a 0) 4 14) e
 
 -- node v can be settled: an accepted plan, one answer and one mark a node
 pub record Ready (p a m : List ℕ) (v : ℕ) : Type 0 where
@@ -31,26 +56,24 @@ pub record Ready (p a m : List ℕ) (v : ℕ) : Type 0 where
   pub marks : length m ≡ size p
   pub node : v < size p
 
--- the first child of v among the k nodes from c on, or the node behind these
-unfoldable pub childFrom : List ℕ → ℕ → ℕ → ℕ → ℕ
-childFrom p v zero c = c
-childFrom p v (suc k) c = cond (eqb (parent p c) v) c (childFrom p v k (suc c))
+-- node v is a block
+abbrev pub Block : List ℕ → ℕ → Type 0
+Block p v = kindByte p v ≡ 1 → ⊥
 
--- the first child of v from node c on, or the node count
-unfoldable pub nextChild : List ℕ → ℕ → ℕ → ℕ
-nextChild p v c = childFrom p v (size p - c) c
+-- v's children from node c on
+unfoldable pub childrenFrom : List ℕ → ℕ → ℕ → List ℕ
+childrenFrom p v c = keep (λ d. eqb (parent p d) v) (upFrom c (size p - c))
 
--- the node that a link names; 0, which is nobody's child, stands for none, and n is then the answer
-unfoldable pub linkAt : List ℕ → ℕ → ℕ → ℕ
-linkAt links i n = cond (eqb (getD links i 0) 0) n (getD links i 0)
+-- v's children from c on, where c is one of them; 0, which is nobody's child, stands for none
+unfoldable pub ledTo : List ℕ → ℕ → ℕ → List ℕ
+ledTo p v c = cond (eqb c 0) [] (c ∷ childrenFrom p v (c + 1))
 
--- `first` names each node's first child, `next` its next sibling
+-- `first` leads to each node's children, `next` to the children behind it
 pub record Linked (p first next : List ℕ) : Type 0 where
-  pub firsts : length first ≡ size p
-  pub nexts : length next ≡ size p
-  pub child : (v : ℕ) → v < size p → linkAt first v (size p) ≡ nextChild p v 1
-  pub sibling : (c : ℕ) → 0 < c → c < size p → linkAt next c (size p) ≡ nextChild p (parent p c) (c + 1)
+  pub child : (v : ℕ) → v < size p → childrenFrom p v 1 ≡ ledTo p v (getD first v 0)
+  pub sibling : (c : ℕ) → 0 < c → c < size p → childrenFrom p (parent p c) (c + 1) ≡ ledTo p (parent p c) (getD next c 0)
 
 -- settling v, where the marks were m, ends as o and leaves the marks n, whatever fuel is enough
-pub record Settles (p a m : List ℕ) (v : ℕ) (n : List ℕ) (o : Outcome) : Type 0 where
-  pub by : (fuel : ℕ) → size p ≤ v + fuel → Pass.settle p a fuel v m ≡ record { outcome = outcomeOf o; marks = n }
+pub record Settles (p a m : List ℕ) (v : ℕ) (n : List ℕ) (o : ℕ) : Type 0 where
+  pub by : (fuel : ℕ) → size p ≤ v + fuel → settle p a fuel v m ≡ record { outcome = outcomeOf o; marks = n }
+  pub least : 3 ≤ o

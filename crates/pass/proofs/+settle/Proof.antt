@@ -1,190 +1,224 @@
--- The loop has walked the node's children below c; the call of itself is on a higher node. Assumes nothing.
+-- What is left of the node's children says what all of them say; the call of itself is on a higher node. Assumes nothing.
 use mathlib.Core.Path.{_≡_, refl, sym, _∙_}
-use Prim.Native.Nat.{ℕ, _-_, _<_}
+use mathlib.Core.Logic.{⊎-elim}
+use mathlib.Core.List.{List}
+use Prim.Native.Nat.{ℕ, _*_, _-_, _<_}
 use native.Mathlib.Omega.{arith}
-use Rattle.plan.specs.Plan.{size}
-use Rattle.pass.specs.Values.{tallyOf}
-use Rattle.pass.proofs.SettleLaws.{Walking, Turn, walk-begins, settle-refused, turn-bounds, turn-ready, turn-less, task-ends, turn-skip, turn-enter, walk-ends}
+use lib.ListN.{length, getD}
+use Rattle.plan.specs.Plan.{size, kindByte}
+use Rattle.pass.specs.Values.{Settles}
+use Rattle.pass.proofs.SettleLaws.{Begun, begun, settle-refused, task-ends}
+use Rattle.pass.proofs.WalkLaws.{first-small, begin-first, begin-second, Walking, Turn, left, walk-long, turn-long, walk-ends, turn-bounds, turn-ready, turn-less, turn-fault, turn-done, turn-on}
 use borrow.Fn.Kinds.{In}
 use borrow.Fn.PlainCycle.{Measures, is, falls, and}
 use Rattle.pass.proofs.settle.Reads as settle
 use Rattle.pass.proofs.settle.Kinds as kinds
 use Rattle.pass.proofs.+settle.Lts-settle as lts
+use Rattle.pass.proofs.at_first.Reads as at-first-reads
 use Rattle.pass.proofs.bad_answer.Reads as bad-answer-reads
 use Rattle.pass.proofs.child_mark.Reads as child-mark-reads
-use Rattle.pass.proofs.ended.Reads as ended-reads
-use Rattle.pass.proofs.link.Reads as link-reads
-use Rattle.pass.proofs.noted.Reads as noted-reads
-use Rattle.pass.proofs.reaches.Reads as reaches-reads
-use Rattle.pass.proofs.skipped.Reads as skipped-reads
+use Rattle.pass.proofs.comes_to.Reads as comes-to-reads
+use Rattle.pass.proofs.done.Reads as done-reads
+use Rattle.pass.proofs.ends_as.Reads as ends-as-reads
+use Rattle.pass.proofs.says_no.Reads as says-no-reads
 use Rattle.pass.proofs.task_end.Reads as task-end-reads
+use Rattle.plan.proofs.wide.Reads as wide-reads
 use Rattle.pass.proofs.+settle.{statement}
 use Rattle.pass.proofs.+settle.Tie.{close}
 
-abbrev left : Measures 5 kinds.ps ℕ
-left κs a = size (a .0 .now) - a .1 .1 .1 .1 .1 .0
+abbrev below-node : Measures 5 kinds.ps ℕ
+below-node κs a = size (a .0 .now) - a .1 .1 .1 .1 .1 .0
 
 abbrev here : ℕ → In 5 kinds.ps
-here t = and 5 kinds.ps (is 5 kinds.ps left t) settle.Pre
+here t = and 5 kinds.ps (is 5 kinds.ps below-node t) settle.Pre
 
 abbrev below : ℕ → In 5 kinds.ps
-below t = and 5 kinds.ps (falls 5 kinds.ps _<_ left t) settle.Pre
+below t = and 5 kinds.ps (falls 5 kinds.ps _<_ below-node t) settle.Pre
 
 abbrev callees : ℕ → lts.Claims
 callees t = (
   bad-answer-reads.Asked,
   bad-answer-reads.Learnt,
-  link-reads.Asked,
-  link-reads.Learnt,
-  reaches-reads.Asked,
-  reaches-reads.Learnt,
-  skipped-reads.Asked,
-  skipped-reads.Learnt,
+  at-first-reads.Asked,
+  at-first-reads.Learnt,
+  wide-reads.Asked,
+  wide-reads.Learnt,
+  says-no-reads.Asked,
+  says-no-reads.Learnt,
   task-end-reads.Asked,
   task-end-reads.Learnt,
-  child-mark-reads.Asked,
-  child-mark-reads.Learnt,
-  noted-reads.Asked,
-  noted-reads.Learnt,
   below t,
   settle.Post,
-  ended-reads.Asked,
-  ended-reads.Learnt,
+  child-mark-reads.Asked,
+  child-mark-reads.Learnt,
+  comes-to-reads.Asked,
+  comes-to-reads.Learnt,
+  done-reads.Asked,
+  done-reads.Learnt,
+  ends-as-reads.Asked,
+  ends-as-reads.Learnt,
 )
 
 below-at : {x y t : ℕ} → y ≡ t → x < y → x < t
 below-at e h = omega arith
 
 abbrev Inv : lts.InvT-loop
-Inv plan answers first next marks₀ node kind answer bad n t₀ c₀ marks t c = Walking plan answers first next marks₀ node kind answer n marks (tallyOf t) c
+Inv plan answers first next marks₀ node kind answer bad start state₀ places₀ c₀ marks state places c = Walking plan answers first next marks₀ node kind answer marks state places c
 
 abbrev μ : lts.MeasureT-loop
-μ plan answers first next marks₀ node kind answer bad n t₀ c₀ marks t c = n - c
+μ plan answers first next marks₀ node kind answer bad start state₀ places₀ c₀ marks state places c = left (size plan) c
+
+-- the block, once its answer is right
+block : (t : ℕ) (c : lts.After-says-no (callees t) (here t) settle.Post Inv μ) →
+    Begun (c .before .before .before .before .before .before .before .before .before .before .before .args .plan .now) (c .before .before .before .before .before .before .before .before .before .before .before .args .answers .now) (c .before .before .before .before .before .before .before .before .before .before .before .args .first .now) (c .before .before .before .before .before .before .before .before .before .before .before .args .next .now) (c .before .before .before .before .before .before .before .before .before .before .before .args .marks .now) (c .before .before .before .before .before .before .before .before .before .before .before .args .node)
+    (getD (c .before .before .before .before .before .before .before .before .before .before .before .args .plan .now) (2 * c .before .before .before .before .before .before .before .before .before .before .before .args .node) 0) (getD (c .before .before .before .before .before .before .before .before .before .before .before .args .answers .now) (c .before .before .before .before .before .before .before .before .before .before .before .args .node) 0)
+block t c =
+    let r = c .before .before .before .before .before .before .before .before .before .before .before .pre .1 in
+    begun (r .0) _ (c .before .before .before .before .before .bad-answer .ensures) (r .1) _ _ (r .2) (c .before .before .before .before .if1 .left)
 
 -- a turn's bounds
 turn : (t : ℕ) (c : lts.In-loop (callees t) (here t) settle.Post Inv μ) →
-    Turn (c .before .before .before .before .before .before .before .before .before .before .before .before .args .plan .now) (c .before .before .before .before .before .before .before .before .before .before .before .before .args .answers .now) (c .before .before .before .before .before .before .before .before .before .before .before .before .args .next .now) (c .before .before .before .before .before .before .before .before .before .before .before .before .args .node)
-    (c .before .loop .marks) (tallyOf (c .before .loop .t)) (c .before .loop .c)
+    Turn (c .before .before .before .before .before .before .before .before .before .before .before .before .before .before .args .plan .now) (c .before .before .before .before .before .before .before .before .before .before .before .before .before .before .args .answers .now) (c .before .before .before .before .before .before .before .before .before .before .before .before .before .before .args .node) (c .before .loop .marks) (c .before .loop .places) (c .before .loop .c)
 turn t c = turn-bounds (c .before .loop .inv) (c .loop-test .taken)
 
+-- where the branches meet
+end-as : {p a m m′ m″ : List ℕ} {c o o′ : ℕ} → m″ ≡ m′ → o′ ≡ o → Settles p a m c m′ o × (length m′ ≡ length m) → Settles p a m c m″ o′ × (length m″ ≡ length m)
+end-as e f h = rw (e, f) h
+
+-- how the child ended, by its answer or by a call
+child : (t : ℕ) (c : lts.Joined3 (callees t) (here t) settle.Post Inv μ) →
+    Settles (c .before .before .before .before .before .before .before .before .before .before .before .before .before .before .before .before .before .args .plan .now) (c .before .before .before .before .before .before .before .before .before .before .before .before .before .before .before .before .before .args .answers .now) (c .before .before .before .before .loop .marks) (c .before .before .before .before .loop .c) (c .if3 .marks) (c .if3 .o) × (length (c .if3 .marks) ≡ length (c .before .before .before .before .loop .marks))
+child t c =
+    let i = c .before .before .before .before .loop .inv in
+    let l = c .before .before .before .loop-test .taken in
+    ⊎-elim
+    (λ w. end-as (w .3) (w .4) (task-ends (turn-ready i l) (w .0 .taken) _ (w .2 .ensures), refl))
+    (λ w. end-as (w .5) (w .6) (w .2 .ensures, w .2 .kept .1 .1 .1 .1 .0))
+    (c .if3 .came)
+
 mul-kind : (t : ℕ) → lts.Need-mul-kind (callees t) (here t) settle.Post Inv μ
-mul-kind t c = let r = c .before .before .before .before .before .pre .1 .0 in omega (arith, r .node, r .accepted .few)
+mul-kind t c = let r = c .before .before .before .pre .1 .0 in omega (arith, r .node, r .accepted .few)
 
 shared-slice-read-kind : (t : ℕ) → lts.Need-shared-slice-read-kind (callees t) (here t) settle.Post Inv μ
-shared-slice-read-kind t c = let r = c .before .before .before .before .before .before .pre .1 .0 in omega (arith, r .node, r .accepted .even)
+shared-slice-read-kind t c = let r = c .before .before .before .before .pre .1 .0 in omega (arith, r .node, r .accepted .even)
 
 shared-slice-read-answer : (t : ℕ) → lts.Need-shared-slice-read-answer (callees t) (here t) settle.Post Inv μ
-shared-slice-read-answer t c = let r = c .before .before .before .before .before .before .before .pre .1 .0 in omega (arith, r .node, r .answers)
+shared-slice-read-answer t c = let r = c .before .before .before .before .before .pre .1 .0 in omega (arith, r .node, r .answers)
 
 bad-answer-requires : (t : ℕ) → lts.Need-bad-answer-requires (callees t) (here t) settle.Post Inv μ
 bad-answer-requires t c κs = tt
 
 returns : (t : ℕ) → lts.Need-returns (callees t) (here t) settle.Post Inv μ
-returns t c = settle-refused (c .before .before .before .before .before .before .before .before .before .pre .1 .0) _ (c .before .bad-answer .ensures) (c .if1 .taken)
+returns t c = settle-refused (c .before .before .before .before .before .before .before .pre .1 .0) _ (c .before .bad-answer .ensures) (c .if1 .taken)
 
-link-requires : (t : ℕ) → lts.Need-link-requires (callees t) (here t) settle.Post Inv μ
-link-requires t c κs = let r = c .before .before .before .before .before .before .before .before .before .pre .1 in omega (arith, r .0 .node, r .1 .firsts)
+at-first-requires : (t : ℕ) → lts.Need-at-first-requires (callees t) (here t) settle.Post Inv μ
+at-first-requires t c κs = tt
+
+element-copy-out-wide : (t : ℕ) → lts.Need-element-copy-out-wide (callees t) (here t) settle.Post Inv μ
+element-copy-out-wide t c = let r = c .before .before .before .before .before .before .before .before .pre .1 .0 in omega (arith, r .node, r .accepted .few)
+
+wide-requires : (t : ℕ) → lts.Need-wide-requires (callees t) (here t) settle.Post Inv μ
+wide-requires t c κs = tt
+
+says-no-requires : (t : ℕ) → lts.Need-says-no-requires (callees t) (here t) settle.Post Inv μ
+says-no-requires t c κs = tt
+
+element-copy-out-wide-2 : (t : ℕ) → lts.Need-element-copy-out-wide-2 (callees t) (here t) settle.Post Inv μ
+element-copy-out-wide-2 t c = omega (arith, first-small (block t (c .before)), c .before .before .wide .ensures)
+
+wide-requires-2 : (t : ℕ) → lts.Need-wide-requires-2 (callees t) (here t) settle.Post Inv μ
+wide-requires-2 t c κs = tt
 
 loop-holds : (t : ℕ) → lts.Need-loop-holds (callees t) (here t) settle.Post Inv μ
 loop-holds t c =
-    let r = c .before .before .before .before .before .before .before .before .before .before .pre .1 in
-    walk-begins (r .0) _ (c .before .before .bad-answer .ensures) (c .before .if1 .left) _ _ (r .1) _ (c .link .ensures)
-
-reaches-requires : (t : ℕ) → lts.Need-reaches-requires (callees t) (here t) settle.Post Inv μ
-reaches-requires t c κs = tt
-
-skipped-requires : (t : ℕ) → lts.Need-skipped-requires (callees t) (here t) settle.Post Inv μ
-skipped-requires t c κs = turn t (c .before .before) .few
-
-link-requires-2 : (t : ℕ) → lts.Need-link-requires-2 (callees t) (here t) settle.Post Inv μ
-link-requires-2 t c κs = turn t (c .before .before .before) .linked
-
-loop-less : (t : ℕ) → lts.Need-loop-less (callees t) (here t) settle.Post Inv μ
-loop-less t c = turn-less (c .before .before .before .before .before .loop .inv) (c .before .before .before .before .loop-test .taken) _ (c .link2 .ensures)
-
-loop-again : (t : ℕ) → lts.Need-loop-again (callees t) (here t) settle.Post Inv μ
-loop-again t c =
-    turn-skip (c .before .before .before .before .before .loop .inv) (c .before .before .before .before .loop-test .taken) _ (c .link2 .ensures)
-    _ (c .before .before .before .reaches .ensures) (c .before .before .if2 .taken)
-    _ (c .before .skipped .ensures)
+    let k = block t (c .before) in
+    let e = c .before .before .before .before .at-first .ensures in
+    let f = c .before .before .wide .ensures in
+    ⊎-elim
+    (λ w. begin-second k (sym (c .before .says-no .ensures) ∙ w .0 .taken) _ _ _ e f (w .3 ∙ w .2 .ensures))
+    (λ w. rw (w .1) (begin-first k (sym (c .before .says-no .ensures) ∙ w .0 .left) _ _ e f))
+    (c .if2 .came)
 
 mul-if3 : (t : ℕ) → lts.Need-mul-if3 (callees t) (here t) settle.Post Inv μ
-mul-if3 t c = omega (arith, turn t (c .before .before) .small)
+mul-if3 t c = omega (arith, turn t (c .before) .small)
 
 shared-slice-read-if3 : (t : ℕ) → lts.Need-shared-slice-read-if3 (callees t) (here t) settle.Post Inv μ
-shared-slice-read-if3 t c = omega (arith, turn t (c .before .before .before) .index)
+shared-slice-read-if3 t c = omega (arith, turn t (c .before .before) .index)
 
 shared-slice-read-task-end : (t : ℕ) → lts.Need-shared-slice-read-task-end (callees t) (here t) settle.Post Inv μ
-shared-slice-read-task-end t c = omega (arith, turn t (c .before .before .before .before .before) .answered)
+shared-slice-read-task-end t c = omega (arith, turn t (c .before .before .before .before) .answered)
 
 task-end-requires : (t : ℕ) → lts.Need-task-end-requires (callees t) (here t) settle.Post Inv μ
 task-end-requires t c κs = tt
 
+settle-requires : (t : ℕ) → lts.Need-settle-requires (callees t) (here t) settle.Post Inv μ
+unfolding kindByte
+settle-requires t c κs =
+    let above = c .before .before .before .before .before .before .before .before .before .before .before .before .before .before .before .before .before .before .pre in
+    (below-at (above .0) (turn t (c .before .before .before .before) .falls), (turn-ready (c .before .before .before .before .before .loop .inv) (c .before .before .before .before .loop-test .taken), c .before .if3 .left, above .1 .2))
+
 child-mark-requires : (t : ℕ) → lts.Need-child-mark-requires (callees t) (here t) settle.Post Inv μ
-child-mark-requires t c κs = turn t (c .before .before .before .before .before .before) .few
+child-mark-requires t c κs = turn t (c .before .before .before) .few
 
 slice-write-marks : (t : ℕ) → lts.Need-slice-write-marks (callees t) (here t) settle.Post Inv μ
-slice-write-marks t c = omega (arith, turn t (c .before .before .before .before .before .before .before) .written)
-
-noted-requires : (t : ℕ) → lts.Need-noted-requires (callees t) (here t) settle.Post Inv μ
-noted-requires t c κs = turn t (c .before .before .before .before .before .before .before) .few
-
-link-requires-3 : (t : ℕ) → lts.Need-link-requires-3 (callees t) (here t) settle.Post Inv μ
-link-requires-3 t c κs = turn t (c .before .before .before .before .before .before .before .before) .linked
-
-loop-less-2 : (t : ℕ) → lts.Need-loop-less-2 (callees t) (here t) settle.Post Inv μ
-loop-less-2 t c = turn-less (c .before .before .before .before .before .before .before .before .before .before .loop .inv) (c .before .before .before .before .before .before .before .before .before .loop-test .taken) _ (c .link3 .ensures)
-
-loop-again-2 : (t : ℕ) → lts.Need-loop-again-2 (callees t) (here t) settle.Post Inv μ
-loop-again-2 t c =
-    let i = c .before .before .before .before .before .before .before .before .before .before .loop .inv in
-    let l = c .before .before .before .before .before .before .before .before .before .loop-test .taken in
-    turn-enter i l _ (c .link3 .ensures)
-    _ (c .before .before .before .before .before .before .before .before .reaches .ensures) (c .before .before .before .before .before .before .before .if2 .left)
-    (c .before .before .before .task-end .result) _ refl (task-ends (turn-ready i l .0) (c .before .before .before .before .before .if3 .taken) (c .before .before .before .task-end .result) (c .before .before .before .task-end .ensures))
-    _ (c .before .before .child-mark .ensures)
-    _ (c .before .noted .ensures)
-
-settle-requires : (t : ℕ) → lts.Need-settle-requires (callees t) (here t) settle.Post Inv μ
-settle-requires t c κs =
-    let above = c .before .before .before .before .before .before .before .before .before .before .before .before .before .before .before .before .before .pre .0 in
-    let b = turn t (c .before .before .before .before .before) in
-    (below-at above (b .falls), turn-ready (c .before .before .before .before .before .before .loop .inv) (c .before .before .before .before .before .loop-test .taken))
-
-child-mark-requires-2 : (t : ℕ) → lts.Need-child-mark-requires-2 (callees t) (here t) settle.Post Inv μ
-child-mark-requires-2 t c κs = turn t (c .before .before .before .before .before .before .before .before) .few
-
-slice-write-marks-2 : (t : ℕ) → lts.Need-slice-write-marks-2 (callees t) (here t) settle.Post Inv μ
-slice-write-marks-2 t c = omega (arith, turn t (c .before .before .before .before .before .before .before .before .before) .written, c .before .before .before .settle .kept .1 .1 .1 .1 .0)
-
-noted-requires-2 : (t : ℕ) → lts.Need-noted-requires-2 (callees t) (here t) settle.Post Inv μ
-noted-requires-2 t c κs = turn t (c .before .before .before .before .before .before .before .before .before) .few
-
-link-requires-4 : (t : ℕ) → lts.Need-link-requires-4 (callees t) (here t) settle.Post Inv μ
-link-requires-4 t c κs = turn t (c .before .before .before .before .before .before .before .before .before .before) .linked
-
-loop-less-3 : (t : ℕ) → lts.Need-loop-less-3 (callees t) (here t) settle.Post Inv μ
-loop-less-3 t c = turn-less (c .before .before .before .before .before .before .before .before .before .before .before .before .loop .inv) (c .before .before .before .before .before .before .before .before .before .before .before .loop-test .taken) _ (c .link4 .ensures)
-
-loop-again-3 : (t : ℕ) → lts.Need-loop-again-3 (callees t) (here t) settle.Post Inv μ
-loop-again-3 t c =
-    turn-enter (c .before .before .before .before .before .before .before .before .before .before .before .before .loop .inv) (c .before .before .before .before .before .before .before .before .before .before .before .loop-test .taken) _ (c .link4 .ensures)
-    _ (c .before .before .before .before .before .before .before .before .before .before .reaches .ensures) (c .before .before .before .before .before .before .before .before .before .if2 .left)
-    _ _ (c .before .before .before .before .before .settle .kept .1 .1 .1 .1 .0) (c .before .before .before .before .before .settle .ensures)
-    _ (c .before .before .child-mark2 .ensures)
-    _ (c .before .noted2 .ensures)
-
-ended-requires : (t : ℕ) → lts.Need-ended-requires (callees t) (here t) settle.Post Inv μ
-ended-requires t c κs = tt
+slice-write-marks t c = omega (arith, turn t (c .before .before .before .before) .written, child t (c .before) .1)
 
 same-length : (t : ℕ) → lts.Need-same-length (callees t) (here t) settle.Post Inv μ
-same-length t c = let i = c .before .before .loop .inv in i .long ∙ sym (i .block .ready .marks)
+same-length t c = turn-long (c .before .before .before .before .before .before .loop .inv) (c .before .before .if3 .marks) (c .before .child-mark .result) (child t (c .before .before) .1)
 
 returns-2 : (t : ℕ) → lts.Need-returns-2 (callees t) (here t) settle.Post Inv μ
-returns-2 t c = walk-ends (c .before .before .loop .inv) (c .before .loop-test .left) _ (c .ended .ensures)
+returns-2 t c =
+    let d = child t (c .before .before) in
+    turn-fault (c .before .before .before .before .before .before .loop .inv) (c .before .before .before .before .before .loop-test .taken) _ _ (d .1) (d .0) _ (c .before .child-mark .ensures)
+    (c .if4 .taken)
+
+comes-to-requires : (t : ℕ) → lts.Need-comes-to-requires (callees t) (here t) settle.Post Inv μ
+comes-to-requires t c κs = tt
+
+done-requires : (t : ℕ) → lts.Need-done-requires (callees t) (here t) settle.Post Inv μ
+done-requires t c κs = tt
+
+ends-as-requires : (t : ℕ) → lts.Need-ends-as-requires (callees t) (here t) settle.Post Inv μ
+ends-as-requires t c κs = tt
+
+same-length-2 : (t : ℕ) → lts.Need-same-length-2 (callees t) (here t) settle.Post Inv μ
+same-length-2 t c = turn-long (c .before .before .before .before .before .before .before .before .before .before .loop .inv) (c .before .before .before .before .before .before .if3 .marks) (c .before .before .before .before .before .child-mark .result) (child t (c .before .before .before .before .before .before) .1)
+
+returns-3 : (t : ℕ) → lts.Need-returns-3 (callees t) (here t) settle.Post Inv μ
+returns-3 t c =
+    let d = child t (c .before .before .before .before .before .before) in
+    turn-done (c .before .before .before .before .before .before .before .before .before .before .loop .inv) (c .before .before .before .before .before .before .before .before .before .loop-test .taken) _ _ (d .1) (d .0) _ (c .before .before .before .before .before .child-mark .ensures)
+    (c .before .before .before .before .if4 .left) _ _ (c .before .before .before .before .before .before .before .before .before .before .before .before .before .before .before .at-first .ensures) (c .before .before .before .comes-to .ensures) _ (c .before .before .done .ensures) (c .before .if5 .taken) _ (c .ends-as .ensures)
+
+add-places : (t : ℕ) → lts.Need-add-places (callees t) (here t) settle.Post Inv μ
+add-places t c = omega (arith, turn t (c .before .before .before .before .before .before .before .before) .few)
+
+element-copy-out-wide-3 : (t : ℕ) → lts.Need-element-copy-out-wide-3 (callees t) (here t) settle.Post Inv μ
+element-copy-out-wide-3 t c = turn t (c .before .before .before .before .before .before .before .before) .small
+
+wide-requires-3 : (t : ℕ) → lts.Need-wide-requires-3 (callees t) (here t) settle.Post Inv μ
+wide-requires-3 t c κs = tt
+
+loop-less : (t : ℕ) → lts.Need-loop-less (callees t) (here t) settle.Post Inv μ
+loop-less t c = turn-less (c .before .before .before .before .before .before .before .before .before .before .before .loop .inv) (c .before .before .before .before .before .before .before .before .before .before .loop-test .taken) _ (c .wide3 .ensures)
+
+loop-again : (t : ℕ) → lts.Need-loop-again (callees t) (here t) settle.Post Inv μ
+loop-again t c =
+    let d = child t (c .before .before .before .before .before .before .before) in
+    turn-on (c .before .before .before .before .before .before .before .before .before .before .before .loop .inv) (c .before .before .before .before .before .before .before .before .before .before .loop-test .taken) _ _ (d .1) (d .0) _ (c .before .before .before .before .before .before .child-mark .ensures)
+    (c .before .before .before .before .before .if4 .left) _ _ (c .before .before .before .before .before .before .before .before .before .before .before .before .before .before .before .before .at-first .ensures) (c .before .before .before .before .comes-to .ensures) _ (c .before .before .before .done .ensures) (c .before .before .if5 .left) _ (c .wide3 .ensures)
+
+ends-as-requires-2 : (t : ℕ) → lts.Need-ends-as-requires-2 (callees t) (here t) settle.Post Inv μ
+ends-as-requires-2 t c κs = tt
+
+same-length-3 : (t : ℕ) → lts.Need-same-length-3 (callees t) (here t) settle.Post Inv μ
+same-length-3 t c = walk-long (c .before .before .loop .inv)
+
+returns-4 : (t : ℕ) → lts.Need-returns-4 (callees t) (here t) settle.Post Inv μ
+returns-4 t c = walk-ends (c .before .before .loop .inv) (c .before .loop-test .left) _ (c .ends-as2 .ensures)
 
 pub +settle-spec : {M : Type 1} → statement M
-+settle-spec = close left λ t. lts.spec (callees t)
++settle-spec = close below-node λ t. lts.spec (callees t)
     (here t)
     settle.Post
     Inv
@@ -194,30 +228,32 @@ pub +settle-spec : {M : Type 1} → statement M
     (shared-slice-read-answer t)
     (bad-answer-requires t)
     (returns t)
-    (link-requires t)
+    (at-first-requires t)
+    (element-copy-out-wide t)
+    (wide-requires t)
+    (says-no-requires t)
+    (element-copy-out-wide-2 t)
+    (wide-requires-2 t)
     (loop-holds t)
-    (reaches-requires t)
-    (skipped-requires t)
-    (link-requires-2 t)
-    (loop-less t)
-    (loop-again t)
     (mul-if3 t)
     (shared-slice-read-if3 t)
     (shared-slice-read-task-end t)
     (task-end-requires t)
+    (settle-requires t)
     (child-mark-requires t)
     (slice-write-marks t)
-    (noted-requires t)
-    (link-requires-3 t)
-    (loop-less-2 t)
-    (loop-again-2 t)
-    (settle-requires t)
-    (child-mark-requires-2 t)
-    (slice-write-marks-2 t)
-    (noted-requires-2 t)
-    (link-requires-4 t)
-    (loop-less-3 t)
-    (loop-again-3 t)
-    (ended-requires t)
     (same-length t)
     (returns-2 t)
+    (comes-to-requires t)
+    (done-requires t)
+    (ends-as-requires t)
+    (same-length-2 t)
+    (returns-3 t)
+    (add-places t)
+    (element-copy-out-wide-3 t)
+    (wide-requires-3 t)
+    (loop-less t)
+    (loop-again t)
+    (ends-as-requires-2 t)
+    (same-length-3 t)
+    (returns-4 t)

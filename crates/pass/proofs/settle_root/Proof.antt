@@ -1,67 +1,44 @@
--- Two local arrays take the links and are lent again. Assumes nothing.
-use mathlib.Core.Path.{sym, _∙_}
+-- Two local arrays take the links. Assumes nothing.
 use borrow.Author.Needs.{needs}
-use Rattle.lists.proofs.Lent.{fresh-zeros}
-use Rattle.pass.proofs.PassLaws.{blank-length, held-room, held-length, held-links}
+use Rattle.plan.specs.Plan.{kindByte}
+use Rattle.pass.proofs.SettleLaws.{task-ends}
 use Rattle.pass.proofs.settle_root.Statement.{statement}
 use Rattle.pass.proofs.settle_root.Tie as tie
 
-node-count-requires : tie.Need-node-count-requires
-node-count-requires c κs = search needs
+shared-slice-read-if1 : tie.Need-shared-slice-read-if1
+shared-slice-read-if1 c = search needs
 
-array-borrow-prefix-first : tie.Need-array-borrow-prefix-first
-array-borrow-prefix-first c = search needs
+shared-slice-read-task-end : tie.Need-shared-slice-read-task-end
+shared-slice-read-task-end c = search needs
 
-slice-aggregate-link-all : tie.Need-slice-aggregate-link-all
-slice-aggregate-link-all c = blank-length (c .before .before .before .before .before .pre) _ (c .before .node-count .ensures)
+task-end-requires : tie.Need-task-end-requires
+task-end-requires c κs = search needs
 
-array-borrow-prefix-next : tie.Need-array-borrow-prefix-next
-array-borrow-prefix-next c = search needs
-
-slice-aggregate-link-all-2 : tie.Need-slice-aggregate-link-all-2
-slice-aggregate-link-all-2 c = blank-length (c .before .before .before .before .before .before .pre) _ (c .before .before .node-count .ensures)
+returns : tie.Need-returns
+returns c = task-ends (c .before .before .before .before .before .before .before .pre) (c .before .before .if1 .taken) _ (c .task-end .ensures)
 
 link-all-requires : tie.Need-link-all-requires
-link-all-requires c κs =
-    let ok = c .before .before .before .before .before .before .pre .accepted in
-    let e = c .before .before .node-count .ensures in
-    (ok, fresh-zeros 160 _ _ e (ok .few), fresh-zeros 160 _ _ e (ok .few))
-
-array-share-prefix-first : tie.Need-array-share-prefix-first
-array-share-prefix-first c = held-room _ (c .before .before .link-all .last .1 .0) (c .before .before .link-all .ensures .firsts ∙ sym (c .before .before .before .before .before .node-count .ensures))
-
-slice-aggregate-settle : tie.Need-slice-aggregate-settle
-slice-aggregate-settle c = held-length _ (c .before .before .before .link-all .last .1 .0) (c .before .before .before .link-all .ensures .firsts ∙ sym (c .before .before .before .before .before .before .node-count .ensures))
-
-array-share-prefix-next : tie.Need-array-share-prefix-next
-array-share-prefix-next c = held-room _ (c .before .before .before .link-all .last .1 .1 .0) (c .before .before .before .link-all .ensures .nexts ∙ sym (c .before .before .before .before .before .before .node-count .ensures))
-
-slice-aggregate-settle-2 : tie.Need-slice-aggregate-settle-2
-slice-aggregate-settle-2 c = held-length _ (c .before .before .before .before .link-all .last .1 .1 .0) (c .before .before .before .before .link-all .ensures .nexts ∙ sym (c .before .before .before .before .before .before .before .node-count .ensures))
+link-all-requires c κs = search needs
 
 settle-requires : tie.Need-settle-requires
-settle-requires c κs = (c .before .before .before .before .before .before .before .before .before .before .before .before .pre, held-links (c .before .before .before .before .before .before .before .before .node-count .ensures) (c .before .before .before .before .before .link-all .ensures))
+unfolding kindByte
+settle-requires c κs = (c .before .before .before .before .before .before .before .before .before .before .before .pre, c .before .before .before .before .before .before .if1 .left, c .before .before .before .link-all .ensures)
 
 same-length : tie.Need-same-length
 same-length c = search needs
 
-returns : tie.Need-returns
-returns c = search needs
+returns-2 : tie.Need-returns-2
+returns-2 c = search needs
 
 pub settle-root-spec : {M : Type 1} → statement M
 settle-root-spec =
     tie.close
     (tie.spec
-    node-count-requires
-    array-borrow-prefix-first
-    slice-aggregate-link-all
-    array-borrow-prefix-next
-    slice-aggregate-link-all-2
+    shared-slice-read-if1
+    shared-slice-read-task-end
+    task-end-requires
+    returns
     link-all-requires
-    array-share-prefix-first
-    slice-aggregate-settle
-    array-share-prefix-next
-    slice-aggregate-settle-2
     settle-requires
     same-length
-    returns)
+    returns-2)
