@@ -100,9 +100,6 @@ fn each_met(row: &[u8], r: table::Row, c: usize) -> bool
 pub(crate) fn kin_met(plan: &[u8], u: u8, skip: u8, r: table::Row, row: &[u8]) -> bool
     ensures { λ b. ⌜ b ≡ kinMet (now (row .entry)) r (kin (now (plan .entry)) u skip) ⌝ }
 {
-    if (r.2 == 0) & (r.3 == 0) {
-        return true;
-    }
     let n = plan::node_count(plan);
     let mut found = r.3 == 0;
     let mut c = 1;

@@ -9,7 +9,7 @@ use Rattle.plan.specs.Plan.{size, parent}
 use Rattle.guard.specs.Row.{isKin, kin}
 use Rattle.guard.proofs.KinLaws.{kin-yes, kin-left, kin-no}
 use Rattle.row.specs.Met.{kinMet}
-use Rattle.row.proofs.MetLaws.{Rest, kin-free, rest-begin, rest-unmet, rest-met, rest-skip, rest-out}
+use Rattle.row.proofs.MetLaws.{Rest, rest-begin, rest-unmet, rest-met, rest-skip, rest-out}
 use borrow.Author.Needs.{needs}
 use Rattle.row.proofs.met.kin_met.Statement.{statement}
 use Rattle.row.proofs.met.kin_met.Tie as tie
@@ -20,26 +20,23 @@ Inv-loop plan u skip r row n found₀ c₀ found c = kinMet row r (kin plan u sk
 abbrev μ-loop : tie.MeasureT-loop
 μ-loop plan u skip r row n found₀ c₀ found c = n - c
 
-returns : tie.Need-returns Inv-loop μ-loop
-returns c = sym (kin-free _ _ _ (c .if1 .taken))
-
 node-count-requires : tie.Need-node-count-requires Inv-loop μ-loop
 node-count-requires c κs = search needs
 
 loop-holds : tie.Need-loop-holds Inv-loop μ-loop
 loop-holds c = rest-begin _ _ _ _ _ _ (c .before .node-count .ensures)
 
-mul-if2 : tie.Need-mul-if2 Inv-loop μ-loop
+mul-if1 : tie.Need-mul-if1 Inv-loop μ-loop
 unfolding size
-mul-if2 c = omega (arith, c .before .before .before .node-count .ensures)
+mul-if1 c = omega (arith, c .before .before .before .node-count .ensures)
 
-add-if2 : tie.Need-add-if2 Inv-loop μ-loop
+add-if1 : tie.Need-add-if1 Inv-loop μ-loop
 unfolding size
-add-if2 c = omega (arith, c .before .before .before .node-count .ensures)
+add-if1 c = omega (arith, c .before .before .before .node-count .ensures)
 
-shared-slice-read-if2 : tie.Need-shared-slice-read-if2 Inv-loop μ-loop
+shared-slice-read-if1 : tie.Need-shared-slice-read-if1 Inv-loop μ-loop
 unfolding size
-shared-slice-read-if2 c = omega (arith, c .before .before .before .before .node-count .ensures)
+shared-slice-read-if1 c = omega (arith, c .before .before .before .before .node-count .ensures)
 
 wide-requires : tie.Need-wide-requires Inv-loop μ-loop
 wide-requires c κs = search needs
@@ -47,12 +44,12 @@ wide-requires c κs = search needs
 each-met-requires : tie.Need-each-met-requires Inv-loop μ-loop
 each-met-requires c κs = search needs
 
-returns-2 : tie.Need-returns-2 Inv-loop μ-loop
+returns : tie.Need-returns Inv-loop μ-loop
 unfolding parent
-returns-2 c = let w = c .before .before .before in
+returns c = let w = c .before .before .before in
     let t = w .before .before .before in
-    sym (rest-unmet _ _ _ _ _ _ (t .before .loop .found) (t .before .loop .inv) (t .loop-test .taken) (kin-yes _ _ _ _ (w .before .if2 .taken) (λ e. c .before .before .if3 .taken (e ∙ sym (w .wide .ensures))))
-    (sym (c .before .each-met .ensures) ∙ not-true _ (c .if4 .taken)))
+    sym (rest-unmet _ _ _ _ _ _ (t .before .loop .found) (t .before .loop .inv) (t .loop-test .taken) (kin-yes _ _ _ _ (w .before .if1 .taken) (λ e. c .before .before .if2 .taken (e ∙ sym (w .wide .ensures))))
+    (sym (c .before .each-met .ensures) ∙ not-true _ (c .if3 .taken)))
 
 heard-requires : tie.Need-heard-requires Inv-loop μ-loop
 heard-requires c κs = search needs
@@ -74,10 +71,10 @@ loop-again c = let t = c .before .before in
     (⊎-elim
     (λ w. rw (w .3) (rest-skip _ _ _ _ _ _ f l i (kin-left _ _ _ _ (w .2 .left ∙ w .1 .ensures))))
     (λ w. rw (w .1) (rest-skip _ _ _ _ _ _ f l i (kin-no _ _ _ _ (w .0 .left)))))
-    (c .if2 .came)
+    (c .if1 .came)
 
-returns-3 : tie.Need-returns-3 Inv-loop μ-loop
-returns-3 c = sym (rest-out _ _ _ _ _ (c .before .loop .inv) (c .loop-test .left))
+returns-2 : tie.Need-returns-2 Inv-loop μ-loop
+returns-2 c = sym (rest-out _ _ _ _ _ (c .before .loop .inv) (c .loop-test .left))
 
 pub kin-met-spec : {M : Type 1} → statement M
 kin-met-spec =
@@ -85,17 +82,16 @@ kin-met-spec =
     (tie.spec
     Inv-loop
     μ-loop
-    returns
     node-count-requires
     loop-holds
-    mul-if2
-    add-if2
-    shared-slice-read-if2
+    mul-if1
+    add-if1
+    shared-slice-read-if1
     wide-requires
     each-met-requires
-    returns-2
+    returns
     heard-requires
     add-c
     loop-less
     loop-again
-    returns-3)
+    returns-2)
