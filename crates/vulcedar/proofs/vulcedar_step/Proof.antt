@@ -1,5 +1,5 @@
 -- Each verdict is its result. Assumes nothing.
-use mathlib.Core.Path.{_≡_, sym, ap, _∙_}
+use mathlib.Core.Path.{sym, ap, _∙_}
 use Rattle.site.specs.Verdict.{refusalNumber, refusalSite, verdictNumber, verdictSite, verdictRule}
 use Rattle.site.specs.declared.Verdict.the-variants.{Refused}
 use Rattle.vulcedar.specs.Result.{ofVerdict}
