@@ -16,7 +16,7 @@ use Rattle.plan.proofs.KindLaws.{is-kind, kind-other, above-byte}
 use Rattle.plan.proofs.AcceptedLaws.{child-between}
 use Rattle.event.specs.Event.{Code, start, offer, commit, abort, answered-yes, answered-no, pick, down, codeOf, eventOf}
 use Rattle.event.proofs.CodeLaws.{two, code-down}
-use Rattle.guard.specs.Guard.{one, anyOf, beforeIn, startBy, finishBy, abortBy, finishing, aborting, guardBy, guard}
+use Rattle.guard.specs.Guard.{beforeIn, startBy, finishBy, abortBy, finishing, aborting, guardBy, guard}
 use Rattle.guard.specs.Row.{kin, whose, leftOut, inTurn, speaks, said, near, rowBy}
 use Rattle.guard.proofs.Between.{in-between, not-between}
 use Rattle.guard.proofs.KinLaws.{before-last, kin-children, kin-others, kin-few}

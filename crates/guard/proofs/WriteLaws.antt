@@ -1,6 +1,6 @@
 -- What the writer's answer and its buffer tell. Assumes nothing.
 use mathlib.Core.Path.{_≡_, refl, sym, ap, _∙_}
-use mathlib.Core.Bool.{Bool, true, false, cond, not}
+use mathlib.Core.Bool.{true}
 use mathlib.Core.List.{List, _++_}
 use Prim.Native.Nat.{ℕ, _≤_, _<_}
 use native.Mathlib.Nat.{zero-add}
@@ -17,13 +17,11 @@ use Rattle.guard.specs.Guard.{guard}
 use Rattle.guard.specs.Rule.{ruleByte}
 use Rattle.guard.specs.Bytes.{encode}
 use Rattle.lists.specs.Put.{Put}
-use Rattle.guard.specs.Written.{Filled, filled, written, fitted, writeOf}
+use Rattle.guard.specs.Written.{filled, written, fitted, writeOf}
 use Rattle.guard.specs.declared.WrittenGuard.{WrittenGuard}
-use Rattle.guard.specs.declared.Written.{Written}
 use Rattle.guard.specs.declared.Written.the-variants.{Done, Refused}
 use Rattle.lists.proofs.PutLaws.{put-front}
 use Rattle.guard.proofs.PutLaws.{front}
-use Rattle.guard.proofs.Short.{guard-short}
 
 pub fitted-not : (x : List ℕ) (r : ℕ) (b : List ℕ) → length b < length x → fitted x r b ≡ filled b (Refused 7)
 unfolding fitted
@@ -64,39 +62,19 @@ pub record DoneTold (p : List ℕ) (code node : ℕ) (b b′ : List ℕ) (g : Wr
   pub long : g .length ≡ length (encode (guard p (eventOf code node)))
   pub rule : g .rule ≡ ruleByte p (eventOf code node)
 
--- the writer refused: b stands as it was, and n is the number of the test that failed
-pub record RefusedTold (p : List ℕ) (code node : ℕ) (b b′ : List ℕ) (n : ℕ) : Type 0 where
-  pub buffer : b′ ≡ b
-  pub number : n ≡ invalid p true true code node
-  pub failed : n ≡ 0 → ⊥
-
 -- two answers that are the same
 same-done : (x y : List ℕ) (m n : WrittenGuard) → filled x (Done m) ≡ filled y (Done n) → (y ≡ x) × (n ≡ m)
 same-done x y m n h = (sym (ap (λ f. f .buffer) h), let a : Done m ≡ Done n = ap (λ f. f .answer) h in cc)
 
-module _ (x y : List ℕ) (m n : ℕ) where
-  same-refused : filled x (Refused m) ≡ filled y (Refused n) → (y ≡ x) × (n ≡ m)
-  same-refused h = (sym (ap (λ f. f .buffer) h), let a : Refused m ≡ Refused n = ap (λ f. f .answer) h in cc)
+done-refused : (x y : List ℕ) (n : ℕ) {g : WrittenGuard} → filled x (Done g) ≡ filled y (Refused n) → ⊥
+done-refused x y n {g = g} h = let a : Done g ≡ Refused n = ap (λ f. f .answer) h in let z : _≡_ {A = ℕ} 0 1 = cc in omega arith
 
-  done-refused : {g : WrittenGuard} → filled x (Done g) ≡ filled y (Refused n) → ⊥
-  done-refused {g = g} h = let a : Done g ≡ Refused n = ap (λ f. f .answer) h in let z : _≡_ {A = ℕ} 0 1 = cc in omega arith
-
-module _ (p : List ℕ) (code node : ℕ) (b b′ : List ℕ) where
-  pub write-done : (g : WrittenGuard) → writeOf p code node b ≡ filled b′ (Done g) → DoneTold p code node b b′ g
-  write-done g h = cases (decided (eqb (invalid p true true code node) 0))
-      (λ e. let z = eqb-true _ _ e in
-      let q = sym (write-valid p code node b refl z) ∙ h in
-      cases (decided (leb (length (encode (guard p (eventOf code node)))) (length b)))
-      (λ f. let r = same-done _ b′ _ g (sym (fitted-done _ _ b (leb-true _ _ f)) ∙ q) in
-      record { valid = valid p true true code node z; buffer = r .0; long = ap (λ w. w .length) (r .1); rule = ap (λ w. w .rule) (r .1) })
-      (λ f. absurd (done-refused b′ b 0 _ (sym q ∙ fitted-not _ _ b (leb-false _ _ f)))))
-      (λ e. absurd (done-refused b′ b 0 _ (sym h ∙ write-invalid p code node b (eqb-false _ _ e))))
-
-  -- a buffer of 290 bytes is never too short
-  pub write-refused : (n : ℕ) → writeOf p code node b ≡ filled b′ (Refused n) → 290 ≤ length b → RefusedTold p code node b b′ n
-  write-refused n h l = cases (decided (eqb (invalid p true true code node) 0))
-      (λ e. let z = eqb-true _ _ e in
-      let s = guard-short p (valid p true true code node z .plan) (eventOf code node) in
-      absurd (done-refused _ b′ 0 n (sym (write-valid p code node b refl z ∙ fitted-done _ _ b (omega arith)) ∙ h)))
-      (λ e. let r = same-refused b b′ _ n (sym (write-invalid p code node b (eqb-false _ _ e)) ∙ h) in
-      record { buffer = r .0; number = r .1; failed = λ z. eqb-false _ _ e (sym (r .1) ∙ z) })
+pub write-done : (p : List ℕ) (code node : ℕ) (b b′ : List ℕ) (g : WrittenGuard) → writeOf p code node b ≡ filled b′ (Done g) → DoneTold p code node b b′ g
+write-done p code node b b′ g h = cases (decided (eqb (invalid p true true code node) 0))
+    (λ e. let z = eqb-true _ _ e in
+    let q = sym (write-valid p code node b refl z) ∙ h in
+    cases (decided (leb (length (encode (guard p (eventOf code node)))) (length b)))
+    (λ f. let r = same-done _ b′ _ g (sym (fitted-done _ _ b (leb-true _ _ f)) ∙ q) in
+    record { valid = valid p true true code node z; buffer = r .0; long = ap (λ w. w .length) (r .1); rule = ap (λ w. w .rule) (r .1) })
+    (λ f. absurd (done-refused b′ b _ (sym q ∙ fitted-not _ _ b (leb-false _ _ f)))))
+    (λ e. absurd (done-refused b′ b _ (sym h ∙ write-invalid p code node b (eqb-false _ _ e))))

@@ -8,7 +8,7 @@ use borrow.Author.Tests.{eq-eqb, ne-eqb, eqb-true, eqb-false, le-leb}
 use lib.Dec.{eqb}
 use lib.ListN.{take}
 use Rattle.lists.specs.Seq.{all, any, keep, upFrom, lastOr}
-use Rattle.lists.proofs.Logic.{cases, decided, clash}
+use Rattle.lists.proofs.Logic.{cases, decided, clash, both}
 use Rattle.lists.proofs.Members.{keep-in, up-in}
 use Rattle.lists.proofs.Keep.{keep-yes, keep-no, keep-out}
 use Rattle.plan.specs.Plan.{parent, childrenBelow, children, size}
@@ -89,6 +89,10 @@ module _ (row : List ℕ) (r : Row) where
   pub each-by : (cs ks : List ℕ) → (r .0 ≡ 0 → ⊥) → (r .2 ≡ 0 → ⊥) → ks ≡ codesOf (r .0) (r .2) → eachMet row r cs ≡ all (clauseMet row ks) cs
   unfolding eachMet
   each-by cs ks h n e = rw (ne-eqb (r .0) 0 h, ne-eqb (r .2) 0 n, e)
+
+  pub kin-free : (cs : List ℕ) → (eqb (r .2) 0 && eqb (r .3) 0) ≡ true → kinMet row r cs ≡ true
+  unfolding kinMet eachMet anyMet
+  kin-free cs h = let b = (both (eqb (r .2) 0) (eqb (r .3) 0)) .0 h in cases (decided (eqb (r .0) 0)) (λ e. rw (e, b .1)) (λ e. rw (e, b .0, b .1))
 
   pub kin-none : kinMet row r [] ≡ eqb (r .3) 0
   unfolding kinMet eachMet anyMet all any

@@ -59,6 +59,9 @@ pub fn is_met(plan: &[u8], code: u8, v: u8, row: &[u8]) -> bool
     if !met::one_met(row, r) {
         return false;
     }
+    if (r.2 == 0) & (r.3 == 0) {
+        return true;
+    }
     if !met::speaks(plan, code, v) {
         return r.3 == 0;
     }

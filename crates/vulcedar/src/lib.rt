@@ -79,12 +79,14 @@ pub extern "C" fn vulcedar_step(plan: &[u8], code: u32, node: u32, row: &mut [u8
     ensures { λ r. ⌜ r ≡ ofVerdict (stepOf (now (plan .entry)) code node (now (row .entry)) .verdict) ⌝ }
     ensures { λ r. ⌜ now (row .exit) ≡ stepOf (now (plan .entry)) code node (now (row .entry)) .row ⌝ }
 {
-    let v = site::step(plan, code, node, row);
-    with_rule(
-        site::number(v),
-        site::verdict_site(v),
-        site::verdict_rule(v),
-    )
+    match site::step(plan, code, node, row) {
+        site::Verdict::Passed(e) => with_rule(0, e.site, e.rule),
+        site::Verdict::Refused(why) => match why {
+            site::Refusal::Invalid(n) => packed(n, 0),
+            site::Refusal::Barred(q) => packed(10, q),
+            site::Refusal::Unmet(q) => packed(11, q),
+        },
+    }
 }
 
 #[no_mangle]

@@ -1,8 +1,8 @@
 -- The tests' number, or the rule. Assumes nothing.
-use mathlib.Core.Path.{_≡_, sym, ap, _∙_}
+use mathlib.Core.Path.{sym, _∙_}
 use mathlib.Core.Bool.{true}
 use native.Mathlib.Omega.{arith}
-use Rattle.event.specs.Valid.{invalid, Valid}
+use Rattle.event.specs.Valid.{Valid}
 use Rattle.event.proofs.ValidLaws.{valid}
 use Rattle.guard.proofs.RuleLaws.{answer-refused, answer-named}
 use borrow.Author.Needs.{needs}

@@ -1,6 +1,5 @@
 -- As the law of the byte says. Assumes nothing.
 use Rattle.guard.proofs.WhomLaws.{turn-byte}
-use borrow.Author.Needs.{needs}
 use Rattle.guard.proofs.whom.in_turn.Statement.{statement}
 use Rattle.guard.proofs.whom.in_turn.Tie as tie
 

@@ -1,6 +1,5 @@
 -- As the law of the byte says. Assumes nothing.
 use Rattle.guard.proofs.WhomLaws.{block-byte}
-use borrow.Author.Needs.{needs}
 use Rattle.guard.proofs.whom.is_block.Statement.{statement}
 use Rattle.guard.proofs.whom.is_block.Tie as tie
 

@@ -1,6 +1,5 @@
 -- A turned down leaves its node out, and no other event does. Assumes nothing.
 use Rattle.guard.proofs.WhomLaws.{none-out, self-out}
-use borrow.Author.Needs.{needs}
 use Rattle.guard.proofs.whom.left_out.Statement.{statement}
 use Rattle.guard.proofs.whom.left_out.Tie as tie
 
