@@ -7,5 +7,4 @@ pub mod KinLaws
 pub mod WhomLaws
 pub mod RowLaws
 pub mod RuleLaws
-pub mod WriteLaws
 pub mod Cases

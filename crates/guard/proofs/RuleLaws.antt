@@ -1,15 +1,15 @@
 -- The rule behind a guard by the numbers of code and kind, and that only the listed bytes occur. Assumes nothing.
-use mathlib.Core.Path.{_≡_, refl, sym, ap, _∙_}
+use mathlib.Core.Path.{_≡_, refl, sym, _∙_}
 use mathlib.Core.Bool.{Bool, true, false, cond, _&&_, _||_, not}
 use mathlib.Core.List.{List}
 use Prim.Native.Nat.{ℕ, _+_, _*_, _≤_, _<_}
 use native.Mathlib.Omega.{arith}
-use borrow.Author.Tests.{eq-eqb, ne-eqb, eqb-true, eqb-false, ltb-true, le-leb, lt-leb}
+use borrow.Author.Tests.{eq-eqb, ne-eqb, eqb-true, eqb-false, ltb-true, le-leb}
 use lib.Dec.{eqb, ltb, leb}
 use Rattle.lists.specs.Seq.{any, allBelow}
 use Rattle.lists.proofs.Logic.{cases, decided, and-left, and-right, and-join, clash}
 use Rattle.lists.proofs.Below.{below-at}
-use Rattle.plan.specs.Plan.{xor, conditional, kindNumber, isKind, kind, kindOf, size, kindByte, parent, above, aboveByte, inXor}
+use Rattle.plan.specs.Plan.{xor, conditional, kindNumber, isKind, kind, size, kindByte, parent, aboveByte, inXor}
 use Rattle.plan.specs.Check.{Accepted}
 use Rattle.plan.proofs.KindLaws.{kind-task, above-byte, is-kind}
 use Rattle.plan.proofs.AcceptedLaws.{parent-in, parent-block}

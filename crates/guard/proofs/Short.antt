@@ -1,5 +1,5 @@
 -- Every guard of an accepted plan fits into 290 bytes. Assumes nothing.
-use mathlib.Core.Path.{_≡_, ap}
+use mathlib.Core.Path.{ap}
 use mathlib.Core.Bool.{Bool, true, false, cond, not}
 use mathlib.Core.List.{List, [], _∷_, _++_, map}
 use Prim.Native.Nat.{ℕ, _+_, _≤_}
@@ -10,7 +10,7 @@ use lib.ListN.{length, length-append}
 use Rattle.lists.proofs.Logic.{cases, decided}
 use Rattle.lists.proofs.Members.{none-in}
 use Rattle.lists.proofs.Keep.{keep-short}
-use Rattle.plan.specs.Plan.{Kind, task, serial, and, or, xor, contingency, conditional, waiting, size, kind, above, inXor, parent, children, others}
+use Rattle.plan.specs.Plan.{Kind, task, serial, and, or, xor, contingency, conditional, waiting, size, kind, inXor, parent, children, others}
 use Rattle.plan.specs.Check.{Accepted}
 use Rattle.plan.proofs.AcceptedLaws.{child-between}
 use Rattle.event.specs.Event.{Code, start, offer, commit, abort, answered-yes, answered-no, pick, down, Event, codeNumber}

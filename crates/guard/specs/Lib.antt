@@ -2,6 +2,5 @@
 pub mod Guard
 pub mod Rule
 pub mod Bytes
-pub mod Written
 pub mod Put
 pub mod Row

@@ -1,8 +1,6 @@
-// The rule behind a guard: its number, and the same as one byte.
+// The rule behind a guard, as a number: in an accepted plan a byte.
 ghost use mathlib.Core.Path.{_≡_};
-ghost use Prim.Native.Nat.{_≤_, _<_};
-ghost use Rattle.plan.specs.Plan.{size};
-ghost use Rattle.plan.specs.Check.{Accepted};
+ghost use Prim.Native.Nat.{_≤_};
 ghost use Rattle.event.specs.Event.{codeOf, eventOf};
 ghost use Rattle.guard.specs.Rule.{ruleKind, ruleByte};
 
@@ -29,12 +27,4 @@ pub fn rule_number(plan: &[u8], code: u8, v: u8) -> usize
         return 0xf3;
     }
     16 * plan::wide(kind_named(plan, k, v)) + plan::wide(k)
-}
-
-// In an accepted plan the number is a byte.
-pub(crate) fn rule_byte(plan: &[u8], code: u8, v: u8) -> u8
-    requires { ⌜ Accepted (now plan) × (v < size (now plan)) ⌝ }
-    ensures { λ r. ⌜ r ≡ ruleByte (now (plan .entry)) (eventOf code v) ⌝ }
-{
-    rule_number(plan, code, v) as u8
 }

@@ -1,13 +1,9 @@
 // Whom the guard of an event speaks of: the children of the node, those of its parent, or nobody.
 ghost use mathlib.Core.Path.{_≡_};
 ghost use mathlib.Core.Bool.{not};
-ghost use Prim.Native.Nat.{_≤_};
-ghost use lib.ListN.{length};
-ghost use Rattle.lists.specs.Put.{Put};
-ghost use Rattle.plan.specs.Plan.{task, isKind, kindOf, size};
-ghost use Rattle.plan.specs.Check.{Accepted};
+ghost use Rattle.plan.specs.Plan.{task, isKind, kindOf};
 ghost use Rattle.event.specs.Event.{codeOf};
-ghost use Rattle.guard.specs.Row.{kin, inTurn, speaks, whose, leftOut, said};
+ghost use Rattle.guard.specs.Row.{inTurn, speaks, whose, leftOut};
 
 fn is_block(k: u8) -> bool
     ensures { λ r. ⌜ r ≡ not (isKind task (kindOf k)) ⌝ }
@@ -52,36 +48,4 @@ pub fn left_out(code: u8, v: u8) -> u8
     ensures { λ r. ⌜ r ≡ leftOut (codeOf code) v ⌝ }
 {
     if (1 <= code) & (code <= 7) { 0 } else { v }
-}
-
-// The children of u but `skip`, at the front of cs, and how many they are.
-fn gather(plan: &[u8], u: u8, skip: u8, cs: &mut [u8]) -> usize
-    requires { ⌜ size (now plan) ≤ 160 ⌝ }
-    requires { ⌜ length (kin (now plan) u skip) ≤ length (now cs) ⌝ }
-    ensures { λ r. ⌜ Put (kin (now (plan .entry)) u skip) (now (cs .entry)) 0 (now (cs .exit)) r ⌝ }
-{
-    let n = plan::node_count(plan);
-    let mut w = 0;
-    let mut c = 1;
-    while c < n {
-        if plan[2 * c + 1] == u {
-            if c as u8 != skip {
-                cs[w] = c as u8;
-                w += 1;
-            }
-        }
-        c += 1;
-    }
-    w
-}
-
-// Those that the guard speaks of.
-pub(crate) fn said(plan: &[u8], code: u8, v: u8, cs: &mut [u8]) -> usize
-    requires { ⌜ Accepted (now plan) × (32 ≤ length (now cs)) ⌝ }
-    ensures { λ r. ⌜ Put (said (now (plan .entry)) (codeOf code) v) (now (cs .entry)) 0 (now (cs .exit)) r ⌝ }
-{
-    if !speaks(code, plan::kind(plan, v), plan::above(plan, v)) {
-        return 0;
-    }
-    gather(plan, whose(plan, code, v), left_out(code, v), cs)
 }

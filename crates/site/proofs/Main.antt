@@ -7,7 +7,7 @@ use lib.Dec.{eqb}
 use borrow.Author.Tests.{eq-eqb}
 use Rattle.lists.specs.Seq.{all, any, keep, upFrom}
 use Rattle.plan.specs.Plan.{size, parent, childrenBelow, children, others}
-use Rattle.event.specs.Event.{Event, offer, down, at, codeNumber, codeOf, eventOf}
+use Rattle.event.specs.Event.{Event, down, at, codeNumber, codeOf, eventOf}
 use Rattle.guard.specs.Guard.{guardBy, guard, holds, barred}
 use Rattle.guard.specs.Bytes.{encEvents, encClauses, encode}
 use Rattle.site.specs.declared.Refusal.{Refusal}

@@ -4,11 +4,11 @@ use mathlib.Core.List.{List}
 use Prim.Native.Nat.{ℕ, _*_, _≤_}
 use native.Mathlib.Omega.{arith}
 use Rattle.event.specs.Event.{eventOf}
-use Rattle.guard.specs.Written.{writtenNumber, writtenLength, filled, writeOf}
-use Rattle.guard.specs.declared.WrittenGuard.{WrittenGuard}
-use Rattle.guard.specs.declared.Written.{Written}
-use Rattle.guard.specs.declared.Written.the-variants.{Done, Refused}
-use Rattle.guard.proofs.WriteLaws.{write-done}
+use Rattle.writer.specs.Written.{writtenNumber, writtenLength, filled, writeOf}
+use Rattle.writer.specs.declared.WrittenGuard.{WrittenGuard}
+use Rattle.writer.specs.declared.Written.{Written}
+use Rattle.writer.specs.declared.Written.the-variants.{Done, Refused}
+use Rattle.writer.proofs.WriteLaws.{write-done}
 use Rattle.guard.proofs.Short.{guard-short}
 use Rattle.site.specs.Step.{Stepped, stepped}
 use Rattle.site.specs.declared.Verdict.{Verdict}

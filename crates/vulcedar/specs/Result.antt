@@ -1,8 +1,8 @@
 -- Results for C (rules K). Definitions only.
 use Prim.Native.Nat.{ℕ, _+_, _*_}
 use Rattle.guard.specs.Rule.{Named}
-use Rattle.guard.specs.declared.Written.{Written}
-use Rattle.guard.specs.Written.{writtenNumber, writtenLength}
+use Rattle.writer.specs.declared.Written.{Written}
+use Rattle.writer.specs.Written.{writtenNumber, writtenLength}
 use Rattle.site.specs.Verdict.{verdictNumber, verdictSite, verdictRule}
 use Rattle.site.specs.declared.Verdict.{Verdict}
 use Rattle.central.specs.Rule.{rulingNumber}

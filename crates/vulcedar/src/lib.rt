@@ -1,12 +1,12 @@
 // The C interface (include/vulcedar.h): exported functions, nothing else. Numbers are 32 bits wide and are not cut, a slice is a pointer and
 // a length, and every length is tested inside. What a result holds is specs/Result.antt.
 ghost use mathlib.Core.Path.{_≡_};
-ghost use Prim.Native.Nat.{_+_, _*_, _≤_};
+ghost use Prim.Native.Nat.{_+_, _*_};
 ghost use Rattle.plan.specs.Check.{checkNumber};
 ghost use Rattle.rewrite.specs.Rewrite.{rewriteOf};
 ghost use Rattle.checker.specs.Depths.{depthsOf};
 ghost use Rattle.guard.specs.Rule.{ruleAnswer};
-ghost use Rattle.guard.specs.Written.{writeOf};
+ghost use Rattle.writer.specs.Written.{writeOf};
 ghost use Rattle.site.specs.Step.{stepOf, hearOf};
 ghost use Rattle.central.specs.Rule.{ruleOf};
 ghost use Rattle.pass.specs.Pass.{passInto};
@@ -59,10 +59,10 @@ pub extern "C" fn vulcedar_guard(plan: &[u8], code: u32, node: u32, buf: &mut [u
     ensures { λ r. ⌜ r ≡ ofWritten (writeOf (now (plan .entry)) code node (now (buf .entry)) .answer) ⌝ }
     ensures { λ r. ⌜ now (buf .exit) ≡ writeOf (now (plan .entry)) code node (now (buf .entry)) .buffer ⌝ }
 {
-    let w = guard::write_guard(plan, code, node, buf);
+    let w = writer::write_guard(plan, code, node, buf);
     match w {
-        guard::Written::Done(g) => 65536 * (g.length as u32),
-        guard::Written::Refused(n) => packed(n, 0),
+        writer::Written::Done(g) => 65536 * (g.length as u32),
+        writer::Written::Refused(n) => packed(n, 0),
     }
 }
 

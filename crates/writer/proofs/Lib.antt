@@ -1,0 +1,3 @@
+-- Laws that the proofs here and in upper crates cite.
+pub mod WriteLaws
+pub mod Cases
