@@ -1,6 +1,6 @@
 -- An action of hosts that keep the rules is a step of the simulation: it has the step's number and leaves the step's rows. Assumes nothing.
 use mathlib.Core.Path.{_≡_, refl, sym, _∙_, ap, ap₂, subst}
-use mathlib.Core.Bool.{Bool, true, false, not, _&&_, cond, and-true}
+use mathlib.Core.Bool.{Bool, true, false, cond, and-true}
 use mathlib.Core.List.{List, [], _∷_, _++_, append-nil}
 use Prim.Native.Nat.{ℕ, _*_, _<_}
 use lib.Dec.{eqb, ltb}
@@ -13,14 +13,14 @@ use Rattle.event.specs.Event.{isCode, Event, eventOf, among, applies}
 use Rattle.event.specs.Site.{Layout, Housed, siteOf}
 use Rattle.event.specs.Valid.{invalid}
 use Rattle.central.specs.Central.{update}
-use Rattle.row.specs.Row.{heard, hear}
-use Rattle.site.specs.Step.{stepInvalid, stepOf, hearOf}
+use Rattle.row.specs.Row.{hear}
+use Rattle.site.specs.Step.{stepInvalid}
 use Rattle.site.proofs.StepLaws.{step-tested, step-passes, step-leaves}
 use Rattle.runs.specs.Agree.{Bytes}
-use Rattle.runs.proofs.Net.{passedIn, movedAll}
+use Rattle.runs.proofs.Net.{passedIn}
 use Rattle.runs.proofs.Safe.{InStep, steps-on, own-row}
 use Rattle.runs.proofs.Full.{site-in}
-use Rattle.job.specs.Simulation.{rowOf, withRow, Step, event, message, stateFits, eventBy, happen, tell, simulate, replayFrom, passedOf, passedFrom}
+use Rattle.job.specs.Simulation.{rowOf, withRow, Step, stateFits, eventBy, happen, tell, simulate, replayFrom, passedOf, passedFrom}
 use Rattle.job.proofs.View.{view}
 use Rattle.job.proofs.StepLaws.{happen-leaves, tell-leaves, valid-is}
 use Rattle.job.proofs.Bridge.{decodeAll, did-all}
@@ -43,10 +43,6 @@ module _ (p : List ℕ) (ok : Accepted p) (lay : Layout) (housed : Housed p lay)
   row-valid : (code node : ℕ) (row : List ℕ) → length row ≡ size p → stepInvalid p code node row ≡ invalid p true true code node
   unfolding stepInvalid
   row-valid code node row l = rw (eq-eqb (length row) (size p) l)
-
-  step-leaves-by : (code node : ℕ) (row : List ℕ) → stepOf p code node row .row ≡ cond (eqb (stepNumber p code node row) 0) (hear row code node) row
-  unfolding stepNumber
-  step-leaves-by code node row = step-leaves p code node row
 
   module _ (es : List Event) (rows : Rows) (st : List ℕ) (alike : Alike es rows st) where
     fitting : stateFits p lay st ≡ true
@@ -175,8 +171,8 @@ module _ (p : List ℕ) (ok : Accepted p) (lay : Layout) (housed : Housed p lay)
         }
 
     pub did : (x : Action) → keeps p lay es x ≡ true → Did x
-    unfolding actionNumber acted stepFor simulate
+    unfolding actionNumber stepNumber acted stepFor simulate
     did (try code node q) kept = did-by (try code node q) code node q (try-number code node q kept)
-        (ap (update rows q) (step-leaves-by code node (rows q))) (try-state code node q kept) (try-inside code node q kept)
+        (ap (update rows q) (step-leaves p code node (rows q))) (try-state code node q kept) (try-inside code node q kept)
     did (send code node q) kept = did-by (send code node q) code node q (send-number code node q kept)
         (ap (update rows q) (hear-leaves p code node (rows q))) (send-state code node q kept) (send-inside code node q kept)

@@ -1,7 +1,7 @@
 -- The claim of specs/Hosts.antt, field by field: the hosts have the simulation's rows and events, of which crate job has the claim. Assumes nothing.
-use mathlib.Core.Path.{_≡_, refl, sym, _∙_, ap, subst}
-use mathlib.Core.Bool.{true, false, not, _&&_}
-use mathlib.Core.List.{List, [], _++_, map}
+use mathlib.Core.Path.{_≡_, sym, _∙_, ap}
+use mathlib.Core.Bool.{true, not}
+use mathlib.Core.List.{List, [], map}
 use mathlib.Core.Logic.{⊎-elim}
 use Prim.Native.Nat.{ℕ, _<_}
 use lib.Dec.{eqb}
@@ -13,7 +13,7 @@ use Rattle.plan.specs.Plan.{size}
 use Rattle.plan.specs.Check.{Accepted}
 use Rattle.event.specs.Event.{codeNumber, Event, among, applies}
 use Rattle.event.specs.Site.{Layout, Housed, siteOf}
-use Rattle.guard.specs.Guard.{guard, holds, barred}
+use Rattle.guard.specs.Guard.{barred}
 use Rattle.central.specs.Mark.{markNumber}
 use Rattle.central.specs.Central.{fresh, allowed, isRun, reaches}
 use Rattle.pass.specs.Pass.{pass}
@@ -28,20 +28,20 @@ use Rattle.job.specs.Simulation.{rowOf, Step, zeros, replay, passed, markBy, ma
 use Rattle.job.specs.Claim.{rowAt, centralAfter, Informed, Over, Claim}
 use Rattle.job.proofs.Bridge.{event-back}
 use Rattle.job.proofs.Main.{demand3}
-use Rattle.hosts.specs.Hosts.{freshRows, Action, stepNumber, stepFor, rowsAfter, actionNumbers, happened, truthful, Covered, hostMark, hostMarks, HostsOver, Followed, HostClaim}
+use Rattle.hosts.specs.Hosts.{freshRows, Action, stepNumber, stepFor, rowsAfter, actionNumbers, happened, keepsRules, Covered, hostMark, hostMarks, HostsOver, Followed, HostClaim}
 use Rattle.hosts.proofs.Covers.{alike-fresh, covers, actionsFrom, follow}
 
 module _ (p : List ℕ) (ok : Accepted p) (lay : Layout) (housed : Housed p lay) where
   job : Claim p lay
   job = demand3 p ok lay housed
 
-  covered : (xs : List Action) → truthful p lay xs ≡ true → Covered p lay xs
-  unfolding truthful rowsAfter actionNumbers happened replay passed
+  covered : (xs : List Action) → keepsRules p lay xs ≡ true → Covered p lay xs
+  unfolding keepsRules rowsAfter actionNumbers happened replay passed
   covered xs kept =
       let c = covers p ok lay housed [] (freshRows p) (zeros p lay) (alike-fresh p ok lay housed) xs kept in
       record { rows = c .same; numbers = c .numbers; events = c .events }
 
-  module _ (xs : List Action) (kept : truthful p lay xs ≡ true) where
+  module _ (xs : List Action) (kept : keepsRules p lay xs ≡ true) where
     steps : List Step
     steps = map stepFor xs
 
@@ -76,7 +76,8 @@ module _ (p : List ℕ) (ok : Accepted p) (lay : Layout) (housed : Housed p lay)
       stuck e = no-bool (allowed p (reaches fresh (happened p xs)) e) (λ k.
           let a : applies p e ≡ true = search parts in
           let l = site-in p ok lay housed e a in
-          over .still e (rw (row-is (siteOf p lay e) l) (job .faithful steps e (informed (siteOf p lay e) l) .1 (rw events-are at k))))
+          over .still e (ap (stepNumber p (codeNumber (e .code)) (e .node)) (row-is (siteOf p lay e) l)
+          ∙ job .faithful steps e (informed (siteOf p lay e) l) .1 (rw events-are at k)))
 
       pass-is : (a : List ℕ) → Bytes (size p) a → Agrees p (among (happened p xs)) a → pass p a ≡ record { number = 0; marks = hostMarks p lay (rowsAfter p xs) }
       unfolding hostMarks
@@ -88,7 +89,7 @@ module _ (p : List ℕ) (ok : Accepted p) (lay : Layout) (housed : Housed p lay)
           (table-by g (size p) (table f (size p)) (table-length f (size p)) (λ v l. table-at f (size p) v l ∙ ap markNumber (sym (mark-is v l))))
 
   follows : (ts : List Step) → Followed p lay ts
-  unfolding truthful rowsAfter happened replay passed
+  unfolding keepsRules rowsAfter happened replay passed
   follows ts =
       let r = follow p ok lay housed [] (freshRows p) (zeros p lay) (alike-fresh p ok lay housed) ts in
       record { actions = actionsFrom p ok lay housed (zeros p lay) ts; kept = r .kept; events = r .events; rows = r .same }
@@ -117,7 +118,7 @@ module _ (p : List ℕ) (ok : Accepted p) (lay : Layout) (housed : Housed p lay)
     covered = covered;
     run = run-is;
     mark = mark-is;
-    settled = pass-is;
+    same-marks = pass-is;
     follows = follows;
     ends = λ es h.
         let r = job .ends es h in

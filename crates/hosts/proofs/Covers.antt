@@ -1,7 +1,7 @@
 -- Lists of actions: one that keeps the rules is a list of steps of the simulation, and every list of steps is followed by one. Assumes nothing.
-use mathlib.Core.Path.{_≡_, refl, sym, _∙_, ap, ap₂, subst}
-use mathlib.Core.Bool.{Bool, true, false, _&&_, cond}
-use mathlib.Core.List.{List, [], _∷_, _++_, map, append-assoc, append-nil}
+use mathlib.Core.Path.{_≡_, refl, sym, _∙_, ap, ap₂}
+use mathlib.Core.Bool.{Bool, true, false, cond}
+use mathlib.Core.List.{List, [], _∷_, _++_, map}
 use Prim.Native.Nat.{ℕ, _<_}
 use lib.Dec.{eqb, ltb}
 use lib.ListN.{length-replicate}
@@ -9,16 +9,16 @@ use borrow.Author.Tests.{eq-eqb, eqb-false}
 use Rattle.lists.proofs.Logic.{cases, decided, and-left, and-right, and-join, parts}
 use Rattle.plan.specs.Plan.{size}
 use Rattle.plan.specs.Check.{Accepted}
-use Rattle.event.specs.Event.{isCode, Event, eventOf, among, applies}
+use Rattle.event.specs.Event.{isCode, Event, eventOf, applies}
 use Rattle.event.specs.Site.{Layout, Housed, siteOf}
-use Rattle.runs.proofs.Net.{relayed, passedIn, movedAll, silence}
+use Rattle.runs.proofs.Net.{relayed, passedIn, movedAll}
 use Rattle.runs.proofs.Safe.{safe, own-row}
 use Rattle.job.specs.Simulation.{rowOf, Step, event, message, simulate, replayFrom, numbersFrom, passedOf, passedFrom, zeros}
 use Rattle.job.proofs.View.{view, zero-bytes, zero-view}
 use Rattle.job.proofs.StepLaws.{refused-leaves, message-passes}
 use Rattle.hosts.specs.Hosts.{Rows, freshRows, Action, try, send, actionNumber, acted, stepFor, rowsFrom, actionNumbersFrom, happenedFrom, isEvent, keeps, keepsFrom}
 use Rattle.hosts.proofs.RowLaws.{row-fresh}
-use Rattle.hosts.proofs.ActionLaws.{Alike, Did, did}
+use Rattle.hosts.proofs.ActionLaws.{Alike, did}
 
 module _ (p : List ℕ) (ok : Accepted p) (lay : Layout) (housed : Housed p lay) where
   pub alike-fresh : Alike p ok lay housed [] (freshRows p) (zeros p lay)

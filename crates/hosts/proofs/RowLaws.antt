@@ -1,12 +1,12 @@
 -- A site's row in a state: fresh, and after one site has heard an event; and what a step and a message leave of a row. Assumes nothing.
 use mathlib.Core.Path.{_≡_, refl, sym, _∙_, ap}
-use mathlib.Core.Bool.{Bool, true, false, cond}
-use mathlib.Core.List.{List, [], _∷_}
+use mathlib.Core.Bool.{false, cond}
+use mathlib.Core.List.{List, _∷_}
 use Prim.Native.Nat.{ℕ, zero, suc, _+_, _-_, _*_, _≤_, _<_}
 use lib.Dec.{eqb, ltb}
-use lib.ListN.{length, getD, take, drop, set, replicate, length-set}
+use lib.ListN.{getD, take, drop, set, replicate}
 use lib.Seq.{take-set-le, take-set-lt, drop-set-lt, drop-set-add}
-use borrow.Author.Tests.{eqb-true, eqb-false, eq-eqb, ltb-true, ltb-false}
+use borrow.Author.Tests.{eqb-true, eqb-false, ltb-true, ltb-false}
 use native.Mathlib.Omega.{arith}
 use Rattle.lists.proofs.Logic.{cases, decided}
 use Rattle.plan.specs.Plan.{size}
@@ -16,7 +16,7 @@ use Rattle.central.specs.Central.{update}
 use Rattle.row.specs.Row.{hear}
 use Rattle.site.specs.Verdict.{refusalNumber, verdictNumber}
 use Rattle.site.specs.Step.{stepInvalid, Told, hearOf}
-use Rattle.site.proofs.StepLaws.{hear-valid, hear-invalid, step-invalid, step-leaves}
+use Rattle.site.proofs.StepLaws.{hear-valid, hear-invalid, step-invalid}
 use Rattle.job.specs.Simulation.{rowOf, withRow, zeros}
 use Rattle.job.proofs.StateLaws.{row-below, byte-at, row-hear}
 use Rattle.hosts.specs.Hosts.{stepNumber, hearNumber}

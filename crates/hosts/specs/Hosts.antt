@@ -33,7 +33,7 @@ pub data Action : Type 0 where
   try : ℕ → ℕ → ℕ → Action
   send : ℕ → ℕ → ℕ → Action
 
--- the numbers of the two answers
+-- H: the numbers of the two answers, 0 passed
 unfoldable pub stepNumber : List ℕ → ℕ → ℕ → List ℕ → ℕ
 stepNumber p code node row = verdictNumber (stepOf p code node row .verdict)
 
@@ -49,12 +49,12 @@ unfoldable pub acted : List ℕ → Rows → Action → Rows
 acted p rows (try code node q) = update rows q (stepOf p code node (rows q) .row)
 acted p rows (send code node q) = update rows q (hearOf p code node (rows q) .row)
 
--- the step of a simulation that an action stands for
+-- I14: the step of a simulation that an action stands for
 unfoldable pub stepFor : Action → Step
 stepFor (try code node q) = event code node
 stepFor (send code node q) = message code node q
 
--- LISTS OF ACTIONS, from any rows: the rows afterwards, each action's number, and the events that passed (I3)
+-- I13: LISTS OF ACTIONS, from any rows: the rows afterwards, each action's number, and the events that passed
 unfoldable pub rowsFrom : List ℕ → Rows → List Action → Rows
 rowsFrom p rows [] = rows
 rowsFrom p rows (x ∷ xs) = rowsFrom p (acted p rows x) xs
@@ -67,7 +67,7 @@ unfoldable pub happenedFrom : List ℕ → Rows → List Action → List Event
 happenedFrom p rows [] = []
 happenedFrom p rows (x ∷ xs) = passedOf (stepFor x) (actionNumber p rows x) ++ happenedFrom p (acted p rows x) xs
 
--- from fresh rows
+-- I13: from fresh rows
 unfoldable pub rowsAfter : List ℕ → List Action → Rows
 rowsAfter p xs = rowsFrom p (freshRows p) xs
 
@@ -77,12 +77,12 @@ actionNumbers p xs = actionNumbersFrom p (freshRows p) xs
 unfoldable pub happened : List ℕ → List Action → List Event
 happened p xs = happenedFrom p (freshRows p) xs
 
--- H8, H9: a code and a node of the plan to which it applies; a site refuses anything else
+-- H8, H9: a code, and a node of the plan to which it applies
 unfoldable pub isEvent : List ℕ → ℕ → ℕ → Bool
 isEvent p code node = isCode code && applies p (eventOf code node)
 
--- I13: A HOST'S TWO RULES, where es have happened. An event is tried on the row of its own site. A site, one of the layout, is told only of
--- events that have happened.
+-- I13: A HOST'S TWO RULES, where es have happened. An event is tried on the row of its own site; and a site, one of the layout, is told of events
+-- that have happened and of no other. What is no event, a site refuses anyway.
 unfoldable pub keeps : List ℕ → Layout → List Event → Action → Bool
 keeps p lay es (try code node q) = cond (isEvent p code node) (eqb q (siteOf p lay (eventOf code node))) true
 keeps p lay es (send code node q) = ltb q (lay .rows) && cond (isEvent p code node) (among es (eventOf code node)) true
@@ -92,8 +92,8 @@ unfoldable pub keepsFrom : List ℕ → Layout → List Event → Rows → List 
 keepsFrom p lay es rows [] = true
 keepsFrom p lay es rows (x ∷ xs) = keeps p lay es x && keepsFrom p lay (es ++ passedOf (stepFor x) (actionNumber p rows x)) (acted p rows x) xs
 
-unfoldable pub truthful : List ℕ → Layout → List Action → Bool
-truthful p lay xs = keepsFrom p lay [] (freshRows p) xs
+unfoldable pub keepsRules : List ℕ → Layout → List Action → Bool
+keepsRules p lay xs = keepsFrom p lay [] (freshRows p) xs
 
 -- I14: the simulation covers a list of actions: each site has the row, each action the number, and the list the events of the same list of steps
 pub record Covered (p : List ℕ) (lay : Layout) (xs : List Action) : Type 0 where
@@ -113,26 +113,26 @@ pub record HostsOver (p : List ℕ) (lay : Layout) (xs : List Action) : Type 0 w
   pub informed : (q : ℕ) → q < lay .rows → (e : Event) → among (happened p xs) e ≡ true → heard (rowsAfter p xs q) e ≡ true
   pub still : (e : Event) → stepNumber p (codeNumber (e .code)) (e .node) (rowsAfter p xs (siteOf p lay e)) ≡ 0 → ⊥
 
--- actions that keep the rules, with the events and the rows of a list of steps
+-- I14: actions that keep the rules, with the events and the rows of a list of steps
 pub record Followed (p : List ℕ) (lay : Layout) (ts : List Step) : Type 0 where
   pub actions : List Action
-  pub kept : truthful p lay actions ≡ true
+  pub kept : keepsRules p lay actions ≡ true
   pub events : happened p actions ≡ passed p lay ts
   pub rows : (q : ℕ) → q < lay .rows → rowsAfter p actions q ≡ rowOf p (replay p lay ts) q
 
 -- I14: WHAT THEN HOLDS
 pub record HostClaim (p : List ℕ) (lay : Layout) : Type 0 where
   -- the simulation covers the hosts, so that all of the main claim (crate job) is about their rows
-  pub covered : (xs : List Action) → truthful p lay xs ≡ true → Covered p lay xs
+  pub covered : (xs : List Action) → keepsRules p lay xs ≡ true → Covered p lay xs
   -- in plain words: what happened is a run; the marks are the run's; and when it is over they are the pass's, for agreeing answers
-  pub run : (xs : List Action) → truthful p lay xs ≡ true → isRun p (happened p xs) ≡ true
-  pub mark : (xs : List Action) → truthful p lay xs ≡ true → (v : ℕ) → v < size p → hostMark lay (rowsAfter p xs) v ≡ reaches fresh (happened p xs) .mark v
-  pub settled : (xs : List Action) → truthful p lay xs ≡ true → HostsOver p lay xs →
+  pub run : (xs : List Action) → keepsRules p lay xs ≡ true → isRun p (happened p xs) ≡ true
+  pub mark : (xs : List Action) → keepsRules p lay xs ≡ true → (v : ℕ) → v < size p → hostMark lay (rowsAfter p xs) v ≡ reaches fresh (happened p xs) .mark v
+  pub same-marks : (xs : List Action) → keepsRules p lay xs ≡ true → HostsOver p lay xs →
       (a : List ℕ) → Bytes (size p) a → Agrees p (among (happened p xs)) a → pass p a ≡ record { number = 0; marks = hostMarks p lay (rowsAfter p xs) }
   -- the rules shut nothing out: hosts that keep them can follow every list of steps, and every run goes on to one that is over
   pub follows : (ts : List Step) → Followed p lay ts
   pub ends : (es : List Event) → isRun p es ≡ true →
-      (fs : List Event) × (xs : List Action) × (truthful p lay xs ≡ true) × (happened p xs ≡ es ++ fs) × HostsOver p lay xs
+      (fs : List Event) × (xs : List Action) × (keepsRules p lay xs ≡ true) × (happened p xs ≡ es ++ fs) × HostsOver p lay xs
 
 -- THE CLAIM, for every accepted plan, with any layout that gives every node a row
 abbrev pub HostsCovered : Type 0

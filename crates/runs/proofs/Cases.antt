@@ -1,7 +1,7 @@
 -- The worked cases P1 to P10, on plan P: a guard's bytes (P1 to P8), and the pass whole, its number and its marks (P9, P10); and a draft that
 -- committed inside a block that was turned down, the pass and its record. Then runs of the two kinds of and. Assumes nothing.
 use mathlib.Core.Path.{_≡_, refl}
-use mathlib.Core.Bool.{Bool, true, false}
+use mathlib.Core.Bool.{true, false}
 use mathlib.Core.List.{List, [], _∷_, map}
 use Prim.Native.Nat.{ℕ}
 use Rattle.lists.specs.Seq.{all, any, keep, upFrom, table, headOr, lastOr}
