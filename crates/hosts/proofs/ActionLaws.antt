@@ -123,9 +123,10 @@ module _ (p : List ℕ) (ok : Accepted p) (lay : Layout) (housed : Housed p lay)
 
       try-inside : eqb (stepNumber p code node (rows q)) 0 ≡ true → (q < lay .rows) × (node < size p)
       unfolding isEvent applies
-      try-inside z = let e = passing z in
-          (subst (λ (r : ℕ). r < lay .rows) (sym (own-site e)) (placed e),
-          ltb-true node (size p) (and-left _ _ (and-right (isCode code) _ e)))
+      try-inside z = let e = passing z in (
+        subst (λ (r : ℕ). r < lay .rows) (sym (own-site e)) (placed e),
+        ltb-true node (size p) (and-left _ _ (and-right (isCode code) _ e)),
+      )
 
     -- a site is told
     module _ (code node q : ℕ) (kept : keeps p lay es (send code node q) ≡ true) where
