@@ -24,7 +24,7 @@ use Rattle.job.specs.Simulation.{rowOf, withRow, Step, stateFits, eventBy, happ
 use Rattle.job.proofs.View.{view}
 use Rattle.job.proofs.StepLaws.{happen-leaves, tell-leaves, valid-is}
 use Rattle.job.proofs.Bridge.{decodeAll, did-all}
-use Rattle.hosts.specs.Hosts.{Rows, Action, try, send, stepNumber, hearNumber, actionNumber, acted, stepFor, isEvent, keeps}
+use Rattle.hosts.specs.Hosts.{Rows, Action, try, send, tryNumber, sendNumber, actionNumber, acted, stepFor, isEvent, keeps}
 use Rattle.hosts.proofs.RowLaws.{row-heard, step-refused, hear-number, hear-leaves}
 
 module _ (p : List ℕ) (ok : Accepted p) (lay : Layout) (housed : Housed p lay) where
@@ -97,8 +97,8 @@ module _ (p : List ℕ) (ok : Accepted p) (lay : Layout) (housed : Housed p lay)
       unfolding isEvent
       placed e = site-in p ok lay housed (eventOf code node) (and-right (isCode code) _ e)
 
-      try-number : stepNumber p code node (rows q) ≡ happen p lay st code node .number
-      unfolding stepNumber happen eventBy
+      try-number : tryNumber p code node (rows q) ≡ happen p lay st code node .number
+      unfolding tryNumber happen eventBy
       try-number = cases (decided (eqb (invalid p true true code node) 0))
           (λ z. let e = sym (event-valid code node) ∙ z in
           rw (fitting, z, own-site e, alike .same site (placed e)))
@@ -106,22 +106,22 @@ module _ (p : List ℕ) (ok : Accepted p) (lay : Layout) (housed : Housed p lay)
           step-refused p code node (rows q) (rw v z) ∙ v ∙ sym (rw (fitting, z)))
 
       -- an event that passes is one, so that q is its site
-      passing : eqb (stepNumber p code node (rows q)) 0 ≡ true → isEvent p code node ≡ true
-      unfolding stepNumber
+      passing : eqb (tryNumber p code node (rows q)) 0 ≡ true → isEvent p code node ≡ true
+      unfolding tryNumber
       passing z = sym (event-valid code node) ∙ rw (row-valid code node (rows q) (alike .long q)) at
           (and-left (eqb (stepInvalid p code node (rows q)) 0) _ (sym (step-passes p code node (rows q)) ∙ z))
 
-      try-state : happen p lay st code node .state ≡ new-state code node q (eqb (stepNumber p code node (rows q)) 0)
+      try-state : happen p lay st code node .state ≡ new-state code node q (eqb (tryNumber p code node (rows q)) 0)
       try-state =
           happen-leaves p lay st code node
           ∙ ap (λ (n : ℕ). cond (eqb n 0) (withRow p st site (hear (rowOf p st site) code node)) st) (sym try-number)
-          ∙ go (eqb (stepNumber p code node (rows q)) 0) (λ z. own-site (passing z))
+          ∙ go (eqb (tryNumber p code node (rows q)) 0) (λ z. own-site (passing z))
         where
           go : (b : Bool) → (b ≡ true → q ≡ site) → cond b (withRow p st site (hear (rowOf p st site) code node)) st ≡ new-state code node q b
           go true e = ap (λ (r : ℕ). withRow p st r (hear (rowOf p st r) code node)) (sym (e refl))
           go false e = refl
 
-      try-inside : eqb (stepNumber p code node (rows q)) 0 ≡ true → (q < lay .rows) × (node < size p)
+      try-inside : eqb (tryNumber p code node (rows q)) 0 ≡ true → (q < lay .rows) × (node < size p)
       unfolding isEvent applies
       try-inside z = let e = passing z in (
         subst (λ (r : ℕ). r < lay .rows) (sym (own-site e)) (placed e),
@@ -138,17 +138,17 @@ module _ (p : List ℕ) (ok : Accepted p) (lay : Layout) (housed : Housed p lay)
       unfolding keeps
       true-word e = rw e at (and-right (ltb q (lay .rows)) _ kept)
 
-      send-number : hearNumber p code node (rows q) ≡ tell p lay st code node q .number
+      send-number : sendNumber p code node (rows q) ≡ tell p lay st code node q .number
       unfolding tell
       send-number = hear-number p code node (rows q) ∙ row-valid code node (rows q) (alike .long q) ∙ cases (decided (eqb (invalid p true true code node) 0))
           (λ z. let e = sym (event-valid code node) ∙ z in
           eqb-true _ 0 z ∙ sym (rw (fitting, lt-ltb q (lay .rows) inside, z, own-row p lay es (view p st) (alike .sound) (eventOf code node), true-word e)))
           (λ z. sym (rw (fitting, lt-ltb q (lay .rows) inside, z)))
 
-      send-state : tell p lay st code node q .state ≡ new-state code node q (eqb (hearNumber p code node (rows q)) 0)
+      send-state : tell p lay st code node q .state ≡ new-state code node q (eqb (sendNumber p code node (rows q)) 0)
       send-state = tell-leaves p lay st code node q ∙ ap (λ (n : ℕ). new-state code node q (eqb n 0)) (sym send-number)
 
-      send-inside : eqb (hearNumber p code node (rows q)) 0 ≡ true → (q < lay .rows) × (node < size p)
+      send-inside : eqb (sendNumber p code node (rows q)) 0 ≡ true → (q < lay .rows) × (node < size p)
       send-inside z = (inside, step-tested p code node (rows q) (sym (hear-number p code node (rows q)) ∙ eqb-true _ 0 z) .node-in)
 
     -- one action
@@ -172,7 +172,7 @@ module _ (p : List ℕ) (ok : Accepted p) (lay : Layout) (housed : Housed p lay)
         }
 
     pub did : (x : Action) → keeps p lay es x ≡ true → Did x
-    unfolding actionNumber stepNumber acted stepFor simulate
+    unfolding actionNumber tryNumber acted stepFor simulate
     did (try code node q) kept = did-by (try code node q) code node q (try-number code node q kept)
         (ap (update rows q) (step-leaves p code node (rows q))) (try-state code node q kept) (try-inside code node q kept)
     did (send code node q) kept = did-by (send code node q) code node q (send-number code node q kept)

@@ -19,7 +19,7 @@ use Rattle.row.specs.Row.{heardIn, heard, hear}
 use Rattle.site.specs.Verdict.{refusalNumber, verdictNumber}
 use Rattle.site.specs.Step.{stepInvalid, decide, stepOf, hearOf}
 use Rattle.job.specs.Simulation.{passedOf, markBy}
-use Rattle.hosts.specs.Hosts.{freshRows, Action, try, send, stepNumber, hearNumber, actionNumber, acted, stepFor, rowsFrom, actionNumbersFrom, happenedFrom, rowsAfter, actionNumbers, happened, isEvent, keeps, keepsFrom, keepsRules, hostMark, hostMarks}
+use Rattle.hosts.specs.Hosts.{freshRows, Action, try, send, tryNumber, sendNumber, actionNumber, acted, stepFor, rowsFrom, actionNumbersFrom, happenedFrom, rowsAfter, actionNumbers, happened, isEvent, keeps, keepsFrom, keepsRules, hostMark, hostMarks}
 
 -- serial 0: tasks 1 and 2
 abbrev inTurn : List ℕ
@@ -68,5 +68,5 @@ cases =
     ∷ []
 
 pub all-right : map (λ k. resultOf (k .plan) (k .actions)) cases ≡ map (λ k. k .result) cases
-unfolding cases case resultOf actionNumbers actionNumbersFrom actionNumber stepNumber hearNumber acted stepFor rowsAfter rowsFrom freshRows happened happenedFrom keepsRules keepsFrom keeps isEvent hostMarks hostMark markBy passedOf own siteOf hostOf hostBy stepOf hearOf stepInvalid decide verdictNumber refusalNumber heard heardIn hear hasBit withBit weight invalid known applies appliesBy isCode codeOf codeNumber sameCode same among markNumber isMark isRun runFrom allowed allowedBy mayStart reachedBy finishesBy failsBy fresh after markAfter answerAfter pickedAfter fitNumber checkNumber lengthOk kindOk parentOk underBlock fits countOk depthOk atAll size kindByte kind kindOf kindNumber isKind parent aboveByte childrenBelow children childCount others depth depthWithin above inXor guard guardBy startBy finishBy abortBy finishing aborting isFirst headOr beforeIn holds barred bars barsBy all any keep upFrom allBelow table lastOr earlier
+unfolding cases case resultOf actionNumbers actionNumbersFrom actionNumber tryNumber sendNumber acted stepFor rowsAfter rowsFrom freshRows happened happenedFrom keepsRules keepsFrom keeps isEvent hostMarks hostMark markBy passedOf own siteOf hostOf hostBy stepOf hearOf stepInvalid decide verdictNumber refusalNumber heard heardIn hear hasBit withBit weight invalid known applies appliesBy isCode codeOf codeNumber sameCode same among markNumber isMark isRun runFrom allowed allowedBy mayStart reachedBy finishesBy failsBy fresh after markAfter answerAfter pickedAfter fitNumber checkNumber lengthOk kindOk parentOk underBlock fits countOk depthOk atAll size kindByte kind kindOf kindNumber isKind parent aboveByte childrenBelow children childCount others depth depthWithin above inXor guard guardBy startBy finishBy abortBy finishing aborting isFirst headOr beforeIn holds barred bars barsBy all any keep upFrom allBelow table lastOr earlier
 all-right = refl

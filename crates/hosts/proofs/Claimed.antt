@@ -28,7 +28,7 @@ use Rattle.job.specs.Simulation.{rowOf, Step, zeros, replay, passed, markBy, ma
 use Rattle.job.specs.Claim.{rowAt, centralAfter, Informed, Over, Claim}
 use Rattle.job.proofs.Bridge.{event-back}
 use Rattle.job.proofs.Main.{demand3}
-use Rattle.hosts.specs.Hosts.{freshRows, Action, stepNumber, stepFor, rowsAfter, actionNumbers, happened, keepsRules, Covered, hostMark, hostMarks, HostsOver, Followed, HostClaim}
+use Rattle.hosts.specs.Hosts.{freshRows, Action, tryNumber, stepFor, rowsAfter, actionNumbers, happened, keepsRules, Covered, hostMark, hostMarks, HostsOver, Followed, HostClaim}
 use Rattle.hosts.proofs.Covers.{alike-fresh, covers, actionsFrom, follow}
 
 module _ (p : List ℕ) (ok : Accepted p) (lay : Layout) (housed : Housed p lay) where
@@ -72,11 +72,11 @@ module _ (p : List ℕ) (ok : Accepted p) (lay : Layout) (housed : Housed p lay)
 
       -- an event that the central rule allows would pass at its site
       stuck : Stuck p (reaches fresh (happened p xs))
-      unfolding allowed stepNumber rowAt centralAfter
+      unfolding allowed tryNumber rowAt centralAfter
       stuck e = no-bool (allowed p (reaches fresh (happened p xs)) e) (λ k.
           let a : applies p e ≡ true = search parts in
           let l = site-in p ok lay housed e a in
-          over .still e (ap (stepNumber p (codeNumber (e .code)) (e .node)) (row-is (siteOf p lay e) l)
+          over .still e (ap (tryNumber p (codeNumber (e .code)) (e .node)) (row-is (siteOf p lay e) l)
           ∙ job .faithful steps e (informed (siteOf p lay e) l) .1 (rw events-are at k)))
 
       pass-is : (a : List ℕ) → Bytes (size p) a → Agrees p (among (happened p xs)) a → pass p a ≡ record { number = 0; marks = hostMarks p lay (rowsAfter p xs) }
@@ -96,8 +96,8 @@ module _ (p : List ℕ) (ok : Accepted p) (lay : Layout) (housed : Housed p lay)
 
   -- hosts that follow a job to its end are at theirs
   module _ (ts : List Step) (over : Over p lay ts) (w : Followed p lay ts) where
-    over-still : (e : Event) → stepNumber p (codeNumber (e .code)) (e .node) (rowsAfter p (w .actions) (siteOf p lay e)) ≡ 0 → ⊥
-    unfolding stepNumber rowAt
+    over-still : (e : Event) → tryNumber p (codeNumber (e .code)) (e .node) (rowsAfter p (w .actions) (siteOf p lay e)) ≡ 0 → ⊥
+    unfolding tryNumber rowAt
     over-still e z =
         let row : List ℕ = rowsAfter p (w .actions) (siteOf p lay e) in
         let k = sym (step-passes p (codeNumber (e .code)) (e .node) row) ∙ eq-eqb _ 0 z in

@@ -19,7 +19,7 @@ use Rattle.site.specs.Step.{stepInvalid, Told, hearOf}
 use Rattle.site.proofs.StepLaws.{hear-valid, hear-invalid, step-invalid}
 use Rattle.job.specs.Simulation.{rowOf, withRow, zeros}
 use Rattle.job.proofs.StateLaws.{row-below, byte-at, row-hear}
-use Rattle.hosts.specs.Hosts.{stepNumber, hearNumber}
+use Rattle.hosts.specs.Hosts.{tryNumber, sendNumber}
 
 -- fresh
 cut-zeros : (n a k : ℕ) → a + n ≤ k → _≡_ {A = List ℕ} (take {A = ℕ} n (drop {A = ℕ} a (replicate {A = ℕ} k 0))) (replicate {A = ℕ} n 0)
@@ -67,17 +67,17 @@ module _ (p st : List ℕ) (q v code : ℕ) (node : v < size p) where
 
 -- what a step and a message answer and leave
 module _ (p : List ℕ) (code node : ℕ) (row : List ℕ) where
-  pub step-refused : (eqb (stepInvalid p code node row) 0 ≡ false) → stepNumber p code node row ≡ stepInvalid p code node row
-  unfolding stepNumber verdictNumber refusalNumber
+  pub step-refused : (eqb (stepInvalid p code node row) 0 ≡ false) → tryNumber p code node row ≡ stepInvalid p code node row
+  unfolding tryNumber verdictNumber refusalNumber
   step-refused z = rw (step-invalid p code node row (stepInvalid p code node row) refl (eqb-false _ 0 z))
 
-  pub hear-number : hearNumber p code node row ≡ stepInvalid p code node row
-  unfolding hearNumber
+  pub hear-number : sendNumber p code node row ≡ stepInvalid p code node row
+  unfolding sendNumber
   hear-number = cases (decided (eqb (stepInvalid p code node row) 0))
       (λ z. ap (λ (t : Told). t .number) (hear-valid p code node row (eqb-true _ 0 z)) ∙ sym (eqb-true _ 0 z))
       (λ z. ap (λ (t : Told). t .number) (hear-invalid p code node row (stepInvalid p code node row) refl (eqb-false _ 0 z)))
 
-  pub hear-leaves : hearOf p code node row .row ≡ cond (eqb (hearNumber p code node row) 0) (hear row code node) row
+  pub hear-leaves : hearOf p code node row .row ≡ cond (eqb (sendNumber p code node row) 0) (hear row code node) row
   hear-leaves = cases (decided (eqb (stepInvalid p code node row) 0))
       (λ z. ap (λ (t : Told). t .row) (hear-valid p code node row (eqb-true _ 0 z)) ∙ sym (rw (hear-number, z)))
       (λ z. ap (λ (t : Told). t .row) (hear-invalid p code node row (stepInvalid p code node row) refl (eqb-false _ 0 z)) ∙ sym (rw (hear-number, z)))

@@ -33,16 +33,16 @@ pub data Action : Type 0 where
   try : ℕ → ℕ → ℕ → Action
   send : ℕ → ℕ → ℕ → Action
 
--- H: the numbers of the two answers, 0 passed
-unfoldable pub stepNumber : List ℕ → ℕ → ℕ → List ℕ → ℕ
-stepNumber p code node row = verdictNumber (stepOf p code node row .verdict)
+-- H0: the numbers of the answers, 0 passed, of a step and of a message
+unfoldable pub tryNumber : List ℕ → ℕ → ℕ → List ℕ → ℕ
+tryNumber p code node row = verdictNumber (stepOf p code node row .verdict)
 
-unfoldable pub hearNumber : List ℕ → ℕ → ℕ → List ℕ → ℕ
-hearNumber p code node row = hearOf p code node row .number
+unfoldable pub sendNumber : List ℕ → ℕ → ℕ → List ℕ → ℕ
+sendNumber p code node row = hearOf p code node row .number
 
 unfoldable pub actionNumber : List ℕ → Rows → Action → ℕ
-actionNumber p rows (try code node q) = stepNumber p code node (rows q)
-actionNumber p rows (send code node q) = hearNumber p code node (rows q)
+actionNumber p rows (try code node q) = tryNumber p code node (rows q)
+actionNumber p rows (send code node q) = sendNumber p code node (rows q)
 
 -- H16, H17: the rows that an action leaves; those of other sites stay
 unfoldable pub acted : List ℕ → Rows → Action → Rows
@@ -111,7 +111,7 @@ hostMarks p lay rows = table (λ v. markNumber (hostMark lay rows v)) (size p)
 -- I8: it is over: every site has heard all that happened, and no event passes at its site any more
 pub record HostsOver (p : List ℕ) (lay : Layout) (xs : List Action) : Type 0 where
   pub informed : (q : ℕ) → q < lay .rows → (e : Event) → among (happened p xs) e ≡ true → heard (rowsAfter p xs q) e ≡ true
-  pub still : (e : Event) → stepNumber p (codeNumber (e .code)) (e .node) (rowsAfter p xs (siteOf p lay e)) ≡ 0 → ⊥
+  pub still : (e : Event) → tryNumber p (codeNumber (e .code)) (e .node) (rowsAfter p xs (siteOf p lay e)) ≡ 0 → ⊥
 
 -- I14: actions that keep the rules, with the events and the rows of a list of steps
 pub record Followed (p : List ℕ) (lay : Layout) (ts : List Step) : Type 0 where
