@@ -6,7 +6,7 @@ use Prim.Native.Nat.{ℕ, _+_, _-_, _≤_, _<_}
 use lib.Dec.{eqb}
 use lib.ListN.{length, getD}
 use Rattle.lists.specs.Seq.{keep, upFrom}
-use Rattle.plan.specs.Plan.{Kind, task, serial, and, or, xor, contingency, conditional, waiting, isKind, size, kindByte, parent}
+use Rattle.plan.specs.Plan.{Kind, task, serial, and, or, xor, contingency, conditional, waiting, isKind, size, parent}
 use Rattle.plan.specs.Check.{Accepted}
 use Rattle.pass.specs.Pass.{Outcome, works, breaks, fault, Tally, settle}
 
@@ -55,10 +55,6 @@ pub record Ready (p a m : List ℕ) (v : ℕ) : Type 0 where
   pub answers : length a ≡ size p
   pub marks : length m ≡ size p
   pub node : v < size p
-
--- node v is a block
-abbrev pub Block : List ℕ → ℕ → Type 0
-Block p v = kindByte p v ≡ 1 → ⊥
 
 -- v's children from node c on
 unfoldable pub childrenFrom : List ℕ → ℕ → ℕ → List ℕ
