@@ -1,10 +1,10 @@
 -- The second form of the check (rule H19): it also leaves every node's depth in lent bytes. Definitions only.
 use mathlib.Core.Path.{_≡_}
 use mathlib.Core.Bool.{cond, not, _&&_}
-use mathlib.Core.List.{List}
+use mathlib.Core.List.{List, _++_}
 use Prim.Native.Nat.{ℕ}
 use lib.Dec.{eqb}
-use lib.ListN.{length}
+use lib.ListN.{length, drop, replicate}
 use Rattle.lists.specs.Seq.{table}
 use Rattle.plan.specs.Plan.{size, depth}
 use Rattle.plan.specs.Check.{checkNumber, fitNumber}
@@ -16,6 +16,10 @@ pub record Checked : Type 0 where
 
 abbrev pub checked : List ℕ → ℕ → Checked
 checked d n = record { depths = d; number = n }
+
+-- A6: every node's depth, in the front of 160 zeros
+unfoldable pub depthsFront : List ℕ → List ℕ
+depthsFront p = table (depth p) (size p) ++ drop (size p) (replicate 160 0)
 
 -- H7: the lent bytes are one a node
 unfoldable pub depthsNumber : List ℕ → List ℕ → ℕ

@@ -121,11 +121,11 @@ unfoldable pub unwalked : List ℕ → Walked
 unwalked m = record { tally = nothing; marks = m }
 
 -- child c was settled as r
-unfoldable pub noted : Kind → ℕ → Walked → ℕ → Settled → Walked
-noted k a w c r = record { tally = note a (w .tally) (r .outcome); marks = set (r .marks) c (childMark k a (w .tally) (r .outcome)) }
+unfoldable pub childSettled : Kind → ℕ → Walked → ℕ → Settled → Walked
+childSettled k a w c r = record { tally = note a (w .tally) (r .outcome); marks = set (r .marks) c (childMark k a (w .tally) (r .outcome)) }
 
 unfoldable pub meetBy : Bool → (ℕ → List ℕ → Settled) → Kind → ℕ → Walked → ℕ → Walked
-meetBy true f k a w c = noted k a w c (f c (w .marks))
+meetBy true f k a w c = childSettled k a w c (f c (w .marks))
 meetBy false f k a w c = record { tally = skip (w .tally); marks = w .marks }
 
 -- the block comes to child c; f settles a child
@@ -153,12 +153,12 @@ settle p a zero v m = record { outcome = fault 0; marks = m }
 settle p a (suc fuel) v m = settleBy (kind p v) (getD a v 0) (λ c m′. settle p a fuel c m′) (children p v) m
 
 -- a number, 0 where the answers are accepted, and marks
-pub record Passed : Type 0 where
+pub record PassResult : Type 0 where
   pub number : ℕ
   pub marks : List ℕ
 
-abbrev pub passed : ℕ → List ℕ → Passed
-passed n m = record { number = n; marks = m }
+abbrev pub passResult : ℕ → List ℕ → PassResult
+passResult n m = record { number = n; marks = m }
 
 -- H13: the number of each outcome
 unfoldable pub numberOf : Outcome → ℕ
@@ -172,11 +172,11 @@ rootMark works = 3
 rootMark breaks = 4
 rootMark (fault n) = 0
 
-unfoldable pub passOf : Settled → Passed
+unfoldable pub passOf : Settled → PassResult
 passOf r = record { number = numberOf (r .outcome); marks = set (r .marks) 0 (rootMark (r .outcome)) }
 
 -- F2, F4: the pass over a plan: it reaches the root, and nodes that it does not reach keep mark 0
-unfoldable pub pass : List ℕ → List ℕ → Passed
+unfoldable pub pass : List ℕ → List ℕ → PassResult
 pass p a = passOf (settle p a (size p) 0 (replicate (size p) 0))
 
 -- 1 to 6 of the plan, 7 of the lengths (H7)
@@ -185,8 +185,8 @@ passNumber p a m = fitNumber p (eqb (length a) (size p) && eqb (length m) (size 
 
 -- H0: a call of the pass, with the marks m lent: 1 to 7, then 13 or 14 of the answers (H13). A refused call leaves the marks; any other
 -- leaves every node's
-unfoldable pub passInto : List ℕ → List ℕ → List ℕ → Passed
+unfoldable pub passInto : List ℕ → List ℕ → List ℕ → PassResult
 passInto p a m =
-    cond (not (eqb (passNumber p a m) 0)) (passed (passNumber p a m) m)
-    (cond (not (eqb (pass p a .number) 0)) (passed (pass p a .number) m)
+    cond (not (eqb (passNumber p a m) 0)) (passResult (passNumber p a m) m)
+    (cond (not (eqb (pass p a .number) 0)) (passResult (pass p a .number) m)
     (pass p a))

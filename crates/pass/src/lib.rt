@@ -8,7 +8,7 @@ ghost use Prim.Native.Nat.{_<_};
 ghost use lib.ListN.{replicate};
 ghost use Rattle.plan.specs.Plan.{kindOf};
 ghost use Rattle.plan.specs.Check.{Accepted};
-ghost use Rattle.pass.specs.Pass.{badAnswer, childMark, nothing, passed, passInto};
+ghost use Rattle.pass.specs.Pass.{badAnswer, childMark, nothing, passResult, passInto};
 ghost use Rattle.pass.specs.Values.{outcomeOf, taskEnd, counted, soFar, comesTo, saysNo, doneBy, endsAs, Ready, Linked, Settles};
 
 // The fault of a node's answer that is found before its children, or 0.
@@ -189,7 +189,7 @@ fn settle_root(plan: &[u8], answers: &[u8], marks: &mut [u8]) -> u8
 // The pass over an accepted plan, with one answer and one mark a node.
 fn settle_all(plan: &[u8], answers: &[u8], marks: &mut [u8]) -> u8
     requires { ⌜ Ready (now plan) (now answers) (now marks) 0 ⌝ }
-    ensures { λ r. ⌜ passInto (now (plan .entry)) (now (answers .entry)) (now (marks .entry)) ≡ passed r (now (marks .exit)) ⌝ }
+    ensures { λ r. ⌜ passInto (now (plan .entry)) (now (answers .entry)) (now (marks .entry)) ≡ passResult r (now (marks .exit)) ⌝ }
 {
     let n = plan::node_count(plan);
     let mut buf = [0u8; 160];
@@ -204,7 +204,7 @@ fn settle_all(plan: &[u8], answers: &[u8], marks: &mut [u8]) -> u8
 
 // The single pass: the number of what was refused and the marks as they were, or 0 and every node's mark.
 pub fn pass(plan: &[u8], answers: &[u8], marks: &mut [u8]) -> u8
-    ensures { λ r. ⌜ passInto (now (plan .entry)) (now (answers .entry)) (now (marks .entry)) ≡ passed r (now (marks .exit)) ⌝ }
+    ensures { λ r. ⌜ passInto (now (plan .entry)) (now (answers .entry)) (now (marks .entry)) ≡ passResult r (now (marks .exit)) ⌝ }
 {
     let n = plan::node_count(plan);
     let bad = checker::fit(plan, (answers.len() == n) & (marks.len() == n));

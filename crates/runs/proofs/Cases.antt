@@ -11,7 +11,7 @@ use Rattle.guard.specs.Guard.{beforeIn, isFirst, startBy, finishBy, abortBy, fi
 use Rattle.guard.specs.Bytes.{encEvents, encClauses, encode}
 use Rattle.central.specs.Mark.{markNumber, isMark}
 use Rattle.central.specs.Central.{fresh, markAfter, answerAfter, pickedAfter, after, reachedBy, mayStart, finishesBy, failsBy, allowedBy, allowed, runFrom, isRun}
-use Rattle.pass.specs.Pass.{goesBy, goes, goodMark, skip, note, childMark, noted, meetBy, meet, walk, nothing, unwalked, oneOrTwo, badAnswer, badPick, closes, ending, endOf, close, settleIf, settleBy, settle, numberOf, rootMark, passOf, pass}
+use Rattle.pass.specs.Pass.{goesBy, goes, goodMark, skip, note, childMark, childSettled, meetBy, meet, walk, nothing, unwalked, oneOrTwo, badAnswer, badPick, closes, ending, endOf, close, settleIf, settleBy, settle, numberOf, rootMark, passOf, pass}
 use Rattle.retention.specs.Record.{commonTable, classOf, aboveWithin, nodesAbove, fell, countsAbove, countsAs, class, Record, recordOf}
 
 pub data Question : Type 0 where
@@ -59,7 +59,7 @@ cases =
     ∷ []
 
 pub all-right : map (λ k. answer (k .asked)) cases ≡ map (λ k. k .told) cases
-unfolding cases case answer listed recordOf class classOf countsAs countsAbove nodesAbove aboveWithin fell commonTable table any all encode encClauses encEvents guard guardBy startBy finishBy abortBy finishing aborting isFirst headOr beforeIn lastOr above inXor isKind kindNumber kind kindOf kindByte parent size children childrenBelow others keep upFrom codeNumber pass passOf settle settleBy settleIf close endOf ending closes badPick badAnswer oneOrTwo nothing unwalked walk meet meetBy noted note childMark skip goodMark goes goesBy numberOf rootMark
+unfolding cases case answer listed recordOf class classOf countsAs countsAbove nodesAbove aboveWithin fell commonTable table any all encode encClauses encEvents guard guardBy startBy finishBy abortBy finishing aborting isFirst headOr beforeIn lastOr above inXor isKind kindNumber kind kindOf kindByte parent size children childrenBelow others keep upFrom codeNumber pass passOf settle settleBy settleIf close endOf ending closes badPick badAnswer oneOrTwo nothing unwalked walk meet meetBy childSettled note childMark skip goodMark goes goesBy numberOf rootMark
 all-right = refl
 
 -- an and over two tasks, of kind 03 or 08

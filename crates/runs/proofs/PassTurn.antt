@@ -19,7 +19,7 @@ use Rattle.plan.proofs.PlanLaws.{rising-children, child-of}
 use Rattle.event.specs.Event.{at, same}
 use Rattle.central.specs.Mark.{committed, failed, turned-down, markNumber, isMark}
 use Rattle.central.specs.Central.{said-yes, said-no, Central, isYes, isNo, marked, started, reachedBy}
-use Rattle.pass.specs.Pass.{Settled, Walked, goesBy, goes, goodMark, childMark, noted, meetBy, meet, walk, unwalked}
+use Rattle.pass.specs.Pass.{Settled, Walked, goesBy, goes, goodMark, childMark, childSettled, meetBy, meet, walk, unwalked}
 use Rattle.runs.specs.Agree.{placeOf, Agrees}
 use Rattle.runs.specs.Claims.{Stuck, ended}
 use Rattle.runs.proofs.Said.{saidBy, said}
@@ -138,7 +138,7 @@ module _ (p : List ℕ) (ok : Accepted p) (s : Central) (good : Good p s) (stuck
 
       module _ (f : ℕ → List ℕ → Settled) (y : started s c ≡ true → Settles p s c (t .marks) (f c (t .marks))) where
         turn : Tallied p s v (ds ++ (c ∷ [])) m (meet f (kind p v) (getD a v 0) t c)
-        unfolding meet meetBy noted childMark outcomeOf isMark markNumber
+        unfolding meet meetBy childSettled childMark outcomeOf isMark markNumber
         turn = cases (decided (started s c))
             (λ x. cases (decided (marked s failed c))
             (λ e. let q = mark-is failed (s .mark c) e in
