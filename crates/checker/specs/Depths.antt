@@ -9,7 +9,7 @@ use Rattle.lists.specs.Seq.{table}
 use Rattle.plan.specs.Plan.{size, depth}
 use Rattle.plan.specs.Check.{checkNumber, fitNumber}
 
--- a number, 0 where the plan is accepted, and the lent bytes
+-- H19: a number, 0 where the plan is accepted, and the lent bytes
 pub record Checked : Type 0 where
   pub depths : List ℕ
   pub number : ℕ
@@ -32,7 +32,7 @@ depthsOf p d =
     cond (not (eqb (depthsNumber p d) 0)) (checked d (depthsNumber p d))
     (checked (table (depth p) (size p)) 0)
 
--- CLAIM. Every plan gets the number that `check` gives it; only where that is 0, and the lent bytes are not one a node, it is 7.
+-- CLAIM (H19). Every plan gets the number that `check` gives it; only where that is 0, and the lent bytes are not one a node, it is 7.
 abbrev pub SameNumber : Type 0
 SameNumber = (p d : List ℕ) →
     (depthsOf p d .number ≡ cond (eqb (checkNumber p) 0 && not (eqb (length d) (size p))) 7 (checkNumber p))
