@@ -2,6 +2,7 @@
 use mathlib.Core.Path.{_≡_, refl, sym, _∙_, ap}
 use mathlib.Core.Bool.{Bool, true, false, cond, not, _&&_}
 use mathlib.Core.List.{List, [], _++_, append-nil}
+use mathlib.Core.Logic.{_⊎_, inl, inr}
 use Prim.Native.Nat.{ℕ, _≤_}
 use native.Mathlib.Omega.{arith}
 use lib.Dec.{eqb}
@@ -9,7 +10,6 @@ use lib.ListN.{length, take, drop, replicate, length-append, drop-of-length-le}
 use lib.Seq.{take-at, take-length}
 use borrow.Author.Tests.{eqb-true, eq-eqb, ne-eqb}
 use Rattle.lists.specs.Seq.{table}
-use Rattle.lists.specs.Member.{Either, left, right}
 use Rattle.lists.proofs.Logic.{decided}
 use Rattle.lists.proofs.Table.{table-length}
 use Rattle.plan.specs.Plan.{size, depth}
@@ -81,9 +81,9 @@ module _ (p d : List ℕ) where
   unfolding depthsOf depthsNumber
   number-is = go (fitNumber p (eqb (length d) (size p))) (decided (eqb (fitNumber p (eqb (length d) (size p))) 0))
     where
-      go : (n : ℕ) → Either (eqb n 0 ≡ true) (eqb n 0 ≡ false) → (cond (not (eqb n 0)) (checked d n) (checked (table (depth p) (size p)) 0)) .number ≡ n
-      go n (left e) = rw e (sym (eqb-true n 0 e))
-      go n (right e) = rw e
+      go : (n : ℕ) → (eqb n 0 ≡ true) ⊎ (eqb n 0 ≡ false) → (cond (not (eqb n 0)) (checked d n) (checked (table (depth p) (size p)) 0)) .number ≡ n
+      go n (inl e) = rw e (sym (eqb-true n 0 e))
+      go n (inr e) = rw e
 
   pub number-same : depthsOf p d .number ≡ cond (eqb (checkNumber p) 0 && not (eqb (length d) (size p))) 7 (checkNumber p)
   number-same = number-is ∙ fit-is p (eqb (checkNumber p) 0) (eqb (length d) (size p)) refl

@@ -3,13 +3,14 @@
 use mathlib.Core.Path.{_≡_, refl, sym, _∙_, ap, subst}
 use mathlib.Core.Bool.{Bool, true, false, not, _&&_, cond}
 use mathlib.Core.List.{List, [], _∷_, _++_, append-assoc, append-nil}
+use mathlib.Core.Logic.{_⊎_}
 use Prim.Native.Nat.{ℕ, suc, _<_}
 use lib.Dec.{eqb, ltb}
 use lib.ListN.{getD, length}
 use borrow.Author.Tests.{eq-eqb, ne-eqb, not-true}
 use native.Mathlib.Omega.{arith}
 use Rattle.lists.specs.Seq.{any, earlier}
-use Rattle.lists.specs.Member.{Either, In, here}
+use Rattle.lists.specs.Member.{In, here}
 use Rattle.lists.proofs.Logic.{cases, same-bool, no-bool, clash, decided}
 use Rattle.lists.proofs.Members.{all-at, all-by, any-at, in-some}
 use Rattle.lists.proofs.Points.{any-none, in-right, any-keep, in-earlier, earlier-in, earlier-split, place-injective}
@@ -68,7 +69,7 @@ module _ (p : List ℕ) (ok : Accepted p) (s : Central) (good : Good p s) (stuck
     in-before d i l = rw before at (in-earlier i l)
 
     -- an xor's answer is the place of the child that committed
-    pick-place : kind p v ≡ xor → Either (s .mark c ≡ committed) (s .mark c ≡ turned-down) → eqb (suc (length ds)) (getD a v 0) ≡ marked s committed c
+    pick-place : kind p v ≡ xor → (s .mark c ≡ committed) ⊎ (s .mark c ≡ turned-down) → eqb (suc (length ds)) (getD a v 0) ≡ marked s committed c
     unfolding said saidBy isKind kindNumber isMark markNumber
     pick-place k q = cases q
         (λ e. rw (e, pick-answer c here-in (good .commit-picked c (child-xor p v c here-in ∙ rw k) (rw e)), before) (eq-eqb (suc (length ds)) (suc (length ds)) refl))
@@ -129,7 +130,7 @@ module _ (p : List ℕ) (ok : Accepted p) (s : Central) (good : Good p s) (stuck
       goes-right = ap (λ w. eqb w 0 && goesBy (kind p v) (getD a v 0) (t .tally)) (i .sound) ∙ goes-kind (kind p v) refl
 
       -- the mark of a child that works
-      mark-right : Either (s .mark c ≡ committed) (s .mark c ≡ turned-down) →
+      mark-right : (s .mark c ≡ committed) ⊎ (s .mark c ≡ turned-down) →
           goodMark (kind p v) (getD a v 0) (suc (t .tally .places)) ≡ markNumber (s .mark c)
       unfolding goodMark markNumber isMark
       mark-right q = rw (i .places) (cases (decided (isKind xor (kind p v)))
