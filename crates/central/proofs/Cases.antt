@@ -11,7 +11,7 @@ use Rattle.event.specs.Bit.{weight, hasBit, withBit}
 use Rattle.event.specs.Valid.{invalid}
 use Rattle.central.specs.Mark.{markNumber, isMark, markOf}
 use Rattle.central.specs.Central.{markAfter, isYes, isNo, reachedBy, mayStart, ofBranch, finishesBy, failsBy, allowedBy, allowed}
-use Rattle.central.specs.Rule.{answerOf, stateOf, noted, marksAfter, notesAfter, Ruled, ruled, rightSize, ruleInvalid, decide, ruleOf, rulingValue}
+use Rattle.central.specs.Rule.{answerOf, stateOf, noted, marksAfter, notesAfter, Ruled, ruled, rightSize, ruleInvalid, ruleOn, ruleOf, rulingValue}
 use Rattle.central.specs.Replay.{allAllowed, marksLeft, notesLeft}
 use Rattle.central.specs.declared.Ruling.the-variants.{Allowed, Forbidden, Refused}
 
@@ -74,5 +74,5 @@ pub all-right :
     × (allAllowed plan run none none ≡ true)
     × (marksLeft plan run none none ≡ six 3 3 3 3 5 3)
     × (notesLeft plan run none none ≡ picked)
-unfolding plan six none offers picked case cases run allAllowed marksLeft notesLeft rulingValue ruleOf ruleInvalid rightSize decide stateOf answerOf noted marksAfter notesAfter invalid known applies appliesBy isCode codeNumber codeOf weight hasBit withBit markNumber isMark markOf markAfter isYes isNo reachedBy mayStart ofBranch finishesBy failsBy allowedBy allowed fitNumber checkNumber lengthOk atAll kindOk parentOk underBlock fits countOk depthOk kindNumber isKind kindOf size kindByte kind parent childrenBelow children childCount others above inXor depthWithin depth all any keep upFrom allBelow earlier
+unfolding plan six none offers picked case cases run allAllowed marksLeft notesLeft rulingValue ruleOf ruleInvalid rightSize ruleOn stateOf answerOf noted marksAfter notesAfter invalid known applies appliesBy isCode codeNumber codeOf weight hasBit withBit markNumber isMark markOf markAfter isYes isNo reachedBy mayStart ofBranch finishesBy failsBy allowedBy allowed fitNumber checkNumber lengthOk atAll kindOk parentOk underBlock fits countOk depthOk kindNumber isKind kindOf size kindByte kind parent childrenBelow children childCount others above inXor depthWithin depth all any keep upFrom allBelow earlier
 all-right = (refl, refl, refl, refl)

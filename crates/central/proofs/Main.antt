@@ -11,22 +11,22 @@ use Rattle.event.specs.Event.{Event}
 use Rattle.central.specs.Mark.{markNumber}
 use Rattle.central.specs.Central.{fresh, isRun, reaches}
 use Rattle.central.specs.Rule.{stateOf}
-use Rattle.central.specs.Replay.{allAllowed, marksLeft, notesLeft, zeros, ReplayExact}
+use Rattle.central.specs.Replay.{allAllowed, marksLeft, notesLeft, blankBytes, ReplayExact}
 use Rattle.central.proofs.StateLaws.{advance-exact}
-use Rattle.central.proofs.ReplayLaws.{Proper, zeros-proper, zeros-fresh, runs-from, left-by}
+use Rattle.central.proofs.ReplayLaws.{Proper, blank-proper, blank-fresh, runs-from, left-by}
 
 module _ (p : List ℕ) (ok : Accepted p) (es : List Event) where
-  runs : allAllowed p es (zeros p) (zeros p) ≡ isRun p es
+  runs : allAllowed p es (blankBytes p) (blankBytes p) ≡ isRun p es
   unfolding isRun
-  runs = runs-from p ok es (zeros p) (zeros p) (zeros-proper p) ∙ rw (zeros-fresh p)
+  runs = runs-from p ok es (blankBytes p) (blankBytes p) (blank-proper p) ∙ rw (blank-fresh p)
 
   module _ (run : isRun p es ≡ true) where
-    left : Proper p (marksLeft p es (zeros p) (zeros p)) (notesLeft p es (zeros p) (zeros p))
-        × (stateOf (marksLeft p es (zeros p) (zeros p)) (notesLeft p es (zeros p) (zeros p)) ≡ reaches fresh es)
+    left : Proper p (marksLeft p es (blankBytes p) (blankBytes p)) (notesLeft p es (blankBytes p) (blankBytes p))
+        × (stateOf (marksLeft p es (blankBytes p) (blankBytes p)) (notesLeft p es (blankBytes p) (blankBytes p)) ≡ reaches fresh es)
     unfolding isRun
-    left = rw (zeros-fresh p) at (left-by p ok es (zeros p) (zeros p) (zeros-proper p) (rw (zeros-fresh p) run))
+    left = rw (blank-fresh p) at (left-by p ok es (blankBytes p) (blankBytes p) (blank-proper p) (rw (blank-fresh p) run))
 
-    marks : marksLeft p es (zeros p) (zeros p) ≡ table (λ v. markNumber (reaches fresh es .mark v)) (size p)
+    marks : marksLeft p es (blankBytes p) (blankBytes p) ≡ table (λ v. markNumber (reaches fresh es .mark v)) (size p)
     unfolding stateOf
     marks = table-by _ (size p) _ (left .0 .marks-long) (λ v l. left .0 .plain v ∙ ap (λ s. markNumber (s .mark v)) (left .1))
 

@@ -21,7 +21,7 @@ use Rattle.event.proofs.ValidLaws.{invalid-unknown, invalid-inapplicable, inval
 use Rattle.central.specs.Mark.{markNumber, markOf}
 use Rattle.central.specs.Central.{fresh, after, allowed, runFrom, reaches}
 use Rattle.central.specs.Rule.{answerOf, stateOf, marksAfter, notesAfter, rightSize, ruled, rulingValue}
-use Rattle.central.specs.Replay.{ask, allAllowed, marksLeft, notesLeft, zeros}
+use Rattle.central.specs.Replay.{ask, allAllowed, marksLeft, notesLeft, blankBytes}
 use Rattle.central.specs.declared.Ruling.the-variants.{Allowed}
 use Rattle.central.proofs.MarkLaws.{mark-back}
 use Rattle.central.proofs.RuleLaws.{rule-refused, rule-forbidden, rule-allowed}
@@ -39,18 +39,18 @@ zeros-at zero v = refl
 zeros-at (suc n) zero = refl
 zeros-at (suc n) (suc v) = zeros-at n v
 
-pub zeros-proper : (p : List ℕ) → Proper p (zeros p) (zeros p)
+pub blank-proper : (p : List ℕ) → Proper p (blankBytes p) (blankBytes p)
 unfolding markOf markNumber
-zeros-proper p = record {
+blank-proper p = record {
   marks-long = length-replicate (size p) 0;
   notes-long = length-replicate (size p) 0;
   small = λ v. rw (zeros-at (size p) v) (omega arith);
   plain = λ v. rw (zeros-at (size p) v);
 }
 
-pub zeros-fresh : (p : List ℕ) → stateOf (zeros p) (zeros p) ≡ fresh
+pub blank-fresh : (p : List ℕ) → stateOf (blankBytes p) (blankBytes p) ≡ fresh
 unfolding stateOf fresh markOf answerOf
-zeros-fresh p = state-by _ _
+blank-fresh p = state-by _ _
     (fun-ext (λ v. rw (zeros-at (size p) v)))
     (fun-ext (λ v. rw (zeros-at (size p) v, no-bit answered-yes, no-bit answered-no)))
     (fun-ext (λ v. rw (zeros-at (size p) v) (no-bit pick)))

@@ -12,7 +12,7 @@ use Rattle.event.specs.Event.{codeOf, eventOf}
 use Rattle.event.specs.Valid.{invalid, Valid}
 use Rattle.event.proofs.ValidLaws.{valid}
 use Rattle.central.specs.Central.{allowed}
-use Rattle.central.specs.Rule.{stateOf, marksAfter, notesAfter, rightSize, ruled, ruleInvalid, decide, ruleOf}
+use Rattle.central.specs.Rule.{stateOf, marksAfter, notesAfter, rightSize, ruled, ruleInvalid, ruleOn, ruleOf}
 use Rattle.central.specs.declared.Ruling.the-variants.{Allowed, Forbidden, Refused}
 
 module _ (p marks notes : List ℕ) where
@@ -31,10 +31,10 @@ module _ (p marks notes : List ℕ) where
       rule-valid = valid p (rightSize p marks notes) true code node (rw (← told) passed)
 
       pub rule-forbidden : allowed p (stateOf marks notes) (eventOf code node) ≡ false → ruleOf p code node marks notes ≡ ruled marks notes Forbidden
-      unfolding ruleOf ruleInvalid decide
+      unfolding ruleOf ruleInvalid ruleOn
       rule-forbidden h = rw (← told, passed, h)
 
       pub rule-allowed : allowed p (stateOf marks notes) (eventOf code node) ≡ true →
           ruleOf p code node marks notes ≡ ruled (marksAfter (codeOf code) node marks) (notesAfter (codeOf code) node notes) Allowed
-      unfolding ruleOf ruleInvalid decide
+      unfolding ruleOf ruleInvalid ruleOn
       rule-allowed h = rw (← told, passed, h)

@@ -8,17 +8,17 @@ use Rattle.plan.specs.Plan.{Kind, task, serial, and, or, xor, contingency, cond
 use Rattle.event.specs.Event.{Code, start, offer, commit, abort, answered-yes, answered-no, pick, down, Event, applies}
 use Rattle.central.specs.Mark.{Mark, idle, running, offered, committed, failed, turned-down, isMark}
 
--- what a conditional has answered
+-- E3: what a conditional has answered
 pub data Answer : Type 0 where
   none said-yes said-no : Answer
 
--- a state: of each node its mark, its answer, and whether it is picked
+-- E1: a state: of each node its mark, its answer, and whether it is picked
 pub record Central : Type 0 where
   pub mark : ℕ → Mark
   pub answer : ℕ → Answer
   pub picked : ℕ → Bool
 
--- f with x at v
+-- E8: f with x at v, and nothing else changed
 abbrev pub update {ℓ} : {A : Type ℓ} → (ℕ → A) → ℕ → A → ℕ → A
 update f v x w = cond (eqb v w) x (f w)
 
@@ -68,6 +68,7 @@ after s e =
       picked = update (s .picked) (e .node) (pickedAfter (e .code) (s .picked (e .node)));
     }
 
+-- E3: which answer it is
 unfoldable pub isYes : Answer → Bool
 isYes none = false
 isYes said-yes = true
@@ -78,7 +79,7 @@ isNo none = false
 isNo said-yes = false
 isNo said-no = true
 
--- v has mark m
+-- E1: v has mark m
 abbrev pub marked : Central → Mark → ℕ → Bool
 marked s m v = isMark m (s .mark v)
 
@@ -146,7 +147,7 @@ allowedBy p s answered-no v = started s v && not (isYes (s .answer v)) && not (i
 allowedBy p s pick v = marked s offered v && not (any (s .picked) (children p (parent p v)))
 allowedBy p s down v = marked s offered v && any (s .picked) (others p v)
 
--- an event that applies (B2) and is allowed
+-- E2 to E7: an event that applies (B2) and is allowed
 unfoldable pub allowed : List ℕ → Central → Event → Bool
 allowed p s e = applies p e && allowedBy p s (e .code) (e .node)
 
@@ -159,7 +160,7 @@ runFrom p s (e ∷ es) = allowed p s e && runFrom p (after s e) es
 unfoldable pub isRun : List ℕ → List Event → Bool
 isRun p es = runFrom p fresh es
 
--- the state that es lead to from s
+-- E8, E9: the state that es lead to from s
 unfoldable pub reaches : Central → List Event → Central
 reaches s [] = s
 reaches s (e ∷ es) = reaches (after s e) es

@@ -3,6 +3,7 @@ use mathlib.Core.Bool.{Bool, cond}
 use Prim.Native.Nat.{ℕ}
 use lib.Dec.{eqb}
 
+-- B6: the six marks
 pub data Mark : Type 0 where
   idle running offered committed failed turned-down : Mark
 
@@ -15,7 +16,7 @@ markNumber committed = 3
 markNumber failed = 4
 markNumber turned-down = 5
 
--- m and n are the same mark
+-- B6: m and n are the same mark
 unfoldable pub isMark : Mark → Mark → Bool
 isMark m n = eqb (markNumber m) (markNumber n)
 

@@ -13,24 +13,24 @@ use Rattle.central.specs.Mark.{markNumber}
 use Rattle.central.specs.Central.{fresh, after, allowed, isRun, reaches}
 use Rattle.central.specs.Rule.{stateOf, marksAfter, notesAfter, Ruled, ruleOf, rulingValue}
 
--- An allowed event leaves bytes that stand for the state after it.
+-- E8, E10: an allowed event leaves bytes that stand for the state after it.
 abbrev pub AdvanceExact : Type 0
 AdvanceExact =
     (p marks notes : List ℕ) (e : Event) → length marks ≡ size p → length notes ≡ size p → ((v : ℕ) → getD notes v 0 < 256) →
     allowed p (stateOf marks notes) e ≡ true →
     stateOf (marksAfter (e .code) (e .node) marks) (notesAfter (e .code) (e .node) notes) ≡ after (stateOf marks notes) e
 
--- the function, asked of an event
+-- E10: the function, asked of an event
 abbrev pub ask : List ℕ → Event → List ℕ → List ℕ → Ruled
 ask p e marks notes = ruleOf p (codeNumber (e .code)) (e .node) marks notes
 
--- asked of each of es, on the bytes that the last answer left: each was allowed
+-- E9: asked of each of es, on the bytes that the last answer left: each was allowed
 unfoldable pub allAllowed : List ℕ → List Event → List ℕ → List ℕ → Bool
 allAllowed p [] marks notes = true
 allAllowed p (e ∷ es) marks notes =
     eqb (rulingValue (ask p e marks notes .ruling)) 1 && allAllowed p es (ask p e marks notes .marks) (ask p e marks notes .notes)
 
--- the marks and the notes that are left then
+-- E9: the marks and the notes that are left then
 unfoldable pub marksLeft : List ℕ → List Event → List ℕ → List ℕ → List ℕ
 marksLeft p [] marks notes = marks
 marksLeft p (e ∷ es) marks notes = marksLeft p es (ask p e marks notes .marks) (ask p e marks notes .notes)
@@ -39,16 +39,16 @@ unfoldable pub notesLeft : List ℕ → List Event → List ℕ → List ℕ →
 notesLeft p [] marks notes = notes
 notesLeft p (e ∷ es) marks notes = notesLeft p es (ask p e marks notes .marks) (ask p e marks notes .notes)
 
--- the bytes at the beginning
-abbrev pub zeros : List ℕ → List ℕ
-zeros p = replicate (size p) 0
+-- E1: the bytes at the beginning
+abbrev pub blankBytes : List ℕ → List ℕ
+blankBytes p = replicate (size p) 0
 
--- MAIN CLAIM. Bytes follow the state. Asked of a list's events one after another, from zeros, the function allows each just if the list
+-- MAIN CLAIM (E9, E10). Bytes follow the state. Asked of a list's events one after another, from zeros, the function allows each just if the list
 -- is a run, and then the marks are those that the run leaves, byte by byte, and the notes say its answers and picks.
 pub record ReplayExact : Type 0 where
   pub advances : AdvanceExact
-  pub runs : (p : List ℕ) → Accepted p → (es : List Event) → allAllowed p es (zeros p) (zeros p) ≡ isRun p es
+  pub runs : (p : List ℕ) → Accepted p → (es : List Event) → allAllowed p es (blankBytes p) (blankBytes p) ≡ isRun p es
   pub marks : (p : List ℕ) → Accepted p → (es : List Event) → isRun p es ≡ true →
-      marksLeft p es (zeros p) (zeros p) ≡ table (λ v. markNumber (reaches fresh es .mark v)) (size p)
+      marksLeft p es (blankBytes p) (blankBytes p) ≡ table (λ v. markNumber (reaches fresh es .mark v)) (size p)
   pub state : (p : List ℕ) → Accepted p → (es : List Event) → isRun p es ≡ true →
-      stateOf (marksLeft p es (zeros p) (zeros p)) (notesLeft p es (zeros p) (zeros p)) ≡ reaches fresh es
+      stateOf (marksLeft p es (blankBytes p) (blankBytes p)) (notesLeft p es (blankBytes p) (blankBytes p)) ≡ reaches fresh es

@@ -1,21 +1,25 @@
 -- The second form of the check (rule H19): it also leaves every node's depth in lent bytes. Definitions only.
 use mathlib.Core.Path.{_≡_}
 use mathlib.Core.Bool.{cond, not, _&&_}
-use mathlib.Core.List.{List}
+use mathlib.Core.List.{List, _++_}
 use Prim.Native.Nat.{ℕ}
 use lib.Dec.{eqb}
-use lib.ListN.{length}
+use lib.ListN.{length, drop, replicate}
 use Rattle.lists.specs.Seq.{table}
 use Rattle.plan.specs.Plan.{size, depth}
 use Rattle.plan.specs.Check.{checkNumber, fitNumber}
 
--- a number, 0 where the plan is accepted, and the lent bytes
+-- H19: a number, 0 where the plan is accepted, and the lent bytes
 pub record Checked : Type 0 where
   pub depths : List ℕ
   pub number : ℕ
 
 abbrev pub checked : List ℕ → ℕ → Checked
 checked d n = record { depths = d; number = n }
+
+-- A6: every node's depth, in the front of 160 zeros
+unfoldable pub depthsFront : List ℕ → List ℕ
+depthsFront p = table (depth p) (size p) ++ drop (size p) (replicate 160 0)
 
 -- H7: the lent bytes are one a node
 unfoldable pub depthsNumber : List ℕ → List ℕ → ℕ
@@ -28,7 +32,7 @@ depthsOf p d =
     cond (not (eqb (depthsNumber p d) 0)) (checked d (depthsNumber p d))
     (checked (table (depth p) (size p)) 0)
 
--- CLAIM. Every plan gets the number that `check` gives it; only where that is 0, and the lent bytes are not one a node, it is 7.
+-- CLAIM (H19). Every plan gets the number that `check` gives it; only where that is 0, and the lent bytes are not one a node, it is 7.
 abbrev pub SameNumber : Type 0
 SameNumber = (p d : List ℕ) →
     (depthsOf p d .number ≡ cond (eqb (checkNumber p) 0 && not (eqb (length d) (size p))) 7 (checkNumber p))

@@ -6,7 +6,7 @@ ghost use lib.ListN.{length, replicate};
 ghost use Rattle.lists.specs.Seq.{table};
 ghost use Rattle.plan.specs.Plan.{kindOf, size, kindByte, parent, childCount, depth};
 ghost use Rattle.plan.specs.Check.{lengthOk, kindOk, parentOk, underBlock, fits, countOk, depthOk, atAll, checkNumber, fitNumber, Ordered};
-ghost use Rattle.checker.specs.Depths.{checked, depthsOf};
+ghost use Rattle.checker.specs.Depths.{checked, depthsFront, depthsOf};
 
 fn kind_at(plan: &[u8], v: usize) -> u8
     requires { ⌜ v < size (now plan) ⌝ }
@@ -90,14 +90,14 @@ fn under_block(plan: &[u8], v: usize) -> bool
 }
 
 // Whether no parent is a task, and whether no depth is above 32.
-struct Told {
+struct Surveyed {
     blocks: bool,
     shallow: bool,
 }
 
 // Leaves each node's number of children in `counts`, which is one zero a node, and its depth in `depths`, one byte a node. One loop for all
 // of it: it waits for `counts` at every turn, and the rest costs nothing.
-fn survey(plan: &[u8], counts: &mut [u8], depths: &mut [u8]) -> Told
+fn survey(plan: &[u8], counts: &mut [u8], depths: &mut [u8]) -> Surveyed
     requires { ⌜ Ordered (now plan) × (now counts ≡ replicate (size (now plan)) 0) × (length (now depths) ≡ size (now plan)) ⌝ }
     ensures { λ r. ⌜ (r .blocks ≡ atAll underBlock (now (plan .entry))) × (r .shallow ≡ atAll depthOk (now (plan .entry))) ⌝ }
     ensures { λ _. ⌜ now (counts .exit) ≡ table (childCount (now (plan .entry))) (size (now (plan .entry))) ⌝ }
@@ -117,7 +117,7 @@ fn survey(plan: &[u8], counts: &mut [u8], depths: &mut [u8]) -> Told
         depths[v] = d;
         v += 1;
     }
-    Told { blocks, shallow }
+    Surveyed { blocks, shallow }
 }
 
 fn count_ok(k: u8, n: u8) -> bool
@@ -145,9 +145,11 @@ fn counts_match(plan: &[u8], counts: &[u8]) -> bool
     ok
 }
 
-// The number of the first test that the plan fails, and 0 where it passes all.
-pub fn check(plan: &[u8]) -> u8
+// The number of the first test that the plan fails; or 0, and each node's depth in the front of `depths`, which is zeros before.
+fn check_into(plan: &[u8], depths: &mut [u8]) -> u8
+    requires { ⌜ now depths ≡ replicate 160 0 ⌝ }
     ensures { λ r. ⌜ r ≡ checkNumber (now (plan .entry)) ⌝ }
+    ensures { λ r. ⌜ (r ≡ 0 → now (depths .exit) ≡ depthsFront (now (plan .entry))) ⌝ }
 {
     if !length_ok(plan) {
         return 1;
@@ -160,18 +162,25 @@ pub fn check(plan: &[u8]) -> u8
     }
     let n = plan::node_count(plan);
     let mut counts = [0u8; 160];
-    let mut depths = [0u8; 160];
-    let told = survey(plan, &mut counts[..n], &mut depths[..n]);
-    if !told.blocks {
+    let found = survey(plan, &mut counts[..n], &mut depths[..n]);
+    if !found.blocks {
         return 4;
     }
     if !counts_match(plan, &counts[..n]) {
         return 5;
     }
-    if !told.shallow {
+    if !found.shallow {
         return 6;
     }
     0
+}
+
+// The number of the first test that the plan fails, and 0 where it passes all.
+pub fn check(plan: &[u8]) -> u8
+    ensures { λ r. ⌜ r ≡ checkNumber (now (plan .entry)) ⌝ }
+{
+    let mut depths = [0u8; 160];
+    check_into(plan, &mut depths[..160])
 }
 
 // The number that `check` answers; where that is 0, 7 unless `fits`: the lengths of what is lent beside the plan are right.
@@ -185,30 +194,20 @@ pub fn fit(plan: &[u8], fits: bool) -> u8
     if fits { 0 } else { 7 }
 }
 
-// Leaves each node's depth in `out`, which is one byte a node.
-fn depths(plan: &[u8], out: &mut [u8])
-    requires { ⌜ Ordered (now plan) × (length (now out) ≡ size (now plan)) ⌝ }
-    ensures { λ _. ⌜ now (out .exit) ≡ table (depth (now (plan .entry))) (size (now (plan .entry))) ⌝ }
-{
-    let n = plan::node_count(plan);
-    out[0] = 1;
-    let mut v = 1;
-    while v < n {
-        let u = parent_at(plan, v);
-        out[v] = out[u] + 1;
-        v += 1;
-    }
-}
-
 // The check, and every node's depth in `out`: the number that `check` answers, and 7 where that is 0 and `out` is not one byte a node. A
 // refused call leaves `out`.
 pub fn check_depths(plan: &[u8], out: &mut [u8]) -> u8
     ensures { λ r. ⌜ depthsOf (now (plan .entry)) (now (out .entry)) ≡ checked (now (out .exit)) r ⌝ }
 {
-    let bad = fit(plan, out.len() == plan::node_count(plan));
+    let mut depths = [0u8; 160];
+    let bad = check_into(plan, &mut depths[..160]);
     if bad != 0 {
         return bad;
     }
-    depths(plan, out);
+    let n = plan::node_count(plan);
+    if out.len() != n {
+        return 7;
+    }
+    bytes::copy(&depths[..n], out);
     0
 }

@@ -1,12 +1,12 @@
 -- The tests of specs/Valid.antt: which fails first, and what is known where none does. Assumes nothing.
-use mathlib.Core.Path.{_≡_, refl, _∙_}
+use mathlib.Core.Path.{_≡_, _∙_}
 use mathlib.Core.Bool.{Bool, true, false, cond, _&&_, not, and-false}
 use mathlib.Core.List.{List}
-use Prim.Native.Nat.{ℕ, suc, _≤_, _<_}
+use Prim.Native.Nat.{ℕ, _≤_, _<_}
 use native.Mathlib.Omega.{arith}
 use borrow.Author.Tests.{ne-eqb, eqb-true, eqb-false, ltb-true}
 use lib.Dec.{eqb}
-use Rattle.lists.proofs.Logic.{cases, decided, and-left, and-right}
+use Rattle.lists.proofs.Logic.{cases, decided, and-left, and-right, test-passed}
 use Rattle.plan.specs.Plan.{size}
 use Rattle.plan.specs.Check.{checkNumber, fitNumber}
 use Rattle.plan.proofs.FitLaws.{fit-right}
@@ -53,10 +53,6 @@ module _ (p : List ℕ) (fits sited : Bool) (code node : ℕ) where
       invalid-none e = rw (fitting, knows, placed, e)
 
   -- a number is 0 only where every test passed
-  test : (t : Bool) (n r : ℕ) → cond (not t) (suc n) r ≡ 0 → (t ≡ true) × (r ≡ 0)
-  test true n r h = (refl, h)
-  test false n r h = absurd (omega arith)
-
   first : (n r : ℕ) → cond (not (eqb n 0)) n r ≡ 0 → (n ≡ 0) × (r ≡ 0)
   first n r h = cases (decided (eqb n 0)) (λ e. (eqb-true n 0 e, rw e at h)) (λ e. absurd (eqb-false n 0 e (rw e at h)))
 
@@ -65,8 +61,8 @@ module _ (p : List ℕ) (fits sited : Bool) (code node : ℕ) where
   valid h =
       let a = first (fitNumber p fits) _ h in
       let b = fit-exact p fits .none .0 (a .0) in
-      let c = test (known p code node && sited) 7 _ (a .1) in
-      let d = test (applies p (eventOf code node)) 8 0 (c .1) in
+      let c = test-passed (known p code node && sited) 7 _ (a .1) in
+      let d = test-passed (applies p (eventOf code node)) 8 0 (c .1) in
       let k = known-told p code node (and-left _ _ (c .0)) in
       record {
         plan = b .0;

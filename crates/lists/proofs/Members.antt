@@ -2,13 +2,14 @@
 use mathlib.Core.Path.{_≡_, refl, _∙_, ap}
 use mathlib.Core.Bool.{Bool, true, false, _&&_, _||_, cond, false≢true}
 use mathlib.Core.List.{List, [], _∷_, _++_, map}
+use mathlib.Core.Logic.{_⊎_, inl, inr}
 use Prim.Native.Nat.{ℕ, zero, suc, _+_, _≤_, _<_}
 use lib.Dec.{eqb}
 use lib.ListN.{length}
 use borrow.Author.Tests.{eqb-true, eqb-false}
 use native.Mathlib.Omega.{arith}
 use Rattle.lists.specs.Seq.{all, any, keep, upFrom, lastOr}
-use Rattle.lists.specs.Member.{Either, left, right, In, here, there, Rising, end, next}
+use Rattle.lists.specs.Member.{In, here, there, Rising, end, next}
 use Rattle.lists.proofs.Logic.{both, either, and-left, and-right, decided}
 
 module _ {A : Type 0} where
@@ -25,7 +26,7 @@ module _ {A : Type 0} where
   pub any-by : (f : A → Bool) {xs : List A} {x : A} → In x xs → f x ≡ true → any f xs ≡ true
   unfolding any
   any-by f (here q) h = rw (← q, h)
-  any-by f (there {y = y} {xs = xs} i) h = (either (f y) (any f xs)) .1 (right (any-by f i h))
+  any-by f (there {y = y} {xs = xs} i) h = (either (f y) (any f xs)) .1 (inr (any-by f i h))
 
   pub any-at : (f : A → Bool) (xs : List A) → any f xs ≡ true → (x : A) × In x xs × (f x ≡ true)
   unfolding any
@@ -35,10 +36,10 @@ module _ {A : Type 0} where
       more : ((x : A) × In x xs × (f x ≡ true)) → (x : A) × In x (y ∷ xs) × (f x ≡ true)
       more r = (r .0, there (r .1), r .2)
 
-      go : (any f xs ≡ true → (x : A) × In x xs × (f x ≡ true)) → Either (f y ≡ true) (any f xs ≡ true) →
+      go : (any f xs ≡ true → (x : A) × In x xs × (f x ≡ true)) → (f y ≡ true) ⊎ (any f xs ≡ true) →
           (x : A) × In x (y ∷ xs) × (f x ≡ true)
-      go k (left e) = (y, here refl, e)
-      go k (right e) = more (k e)
+      go k (inl e) = (y, here refl, e)
+      go k (inr e) = more (k e)
 
   pub keep-in : (f : A → Bool) (xs : List A) {x : A} → In x (keep f xs) → In x xs × (f x ≡ true)
   unfolding keep
@@ -115,10 +116,10 @@ unfolding upFrom
 in-up from zero v h k = absurd (omega arith)
 in-up from (suc count) v h k = go (decided (eqb v from)) (in-up (suc from) count v)
   where
-    go : Either (eqb v from ≡ true) (eqb v from ≡ false) → (suc from ≤ v → v < suc from + count → In v (upFrom (suc from) count)) →
+    go : (eqb v from ≡ true) ⊎ (eqb v from ≡ false) → (suc from ≤ v → v < suc from + count → In v (upFrom (suc from) count)) →
         In v (from ∷ upFrom (suc from) count)
-    go (left e) r = here (eqb-true v from e)
-    go (right e) r = there (r (omega (arith, eqb-false v from e)) (omega arith))
+    go (inl e) r = here (eqb-true v from e)
+    go (inr e) r = there (r (omega (arith, eqb-false v from e)) (omega arith))
 
 pub up-in : (from count : ℕ) {v : ℕ} → In v (upFrom from count) → (from ≤ v) × (v < from + count)
 unfolding upFrom

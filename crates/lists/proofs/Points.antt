@@ -2,19 +2,20 @@
 use mathlib.Core.Path.{_≡_, refl, _∙_, ap}
 use mathlib.Core.Bool.{Bool, true, false, not, _&&_, _||_, cond, or-false, true≢false}
 use mathlib.Core.List.{List, [], _∷_, _++_, map}
+use mathlib.Core.Logic.{_⊎_, inl, inr}
 use Prim.Native.Nat.{ℕ, suc, _≤_, _<_}
 use lib.Dec.{eqb, ltb}
 use lib.ListN.{length}
 use borrow.Author.Tests.{le-ltb, lt-ltb, ltb-false, ltb-true, ne-eqb}
 use native.Mathlib.Omega.{arith}
 use Rattle.lists.specs.Seq.{all, any, keep, lastOr, earlier}
-use Rattle.lists.specs.Member.{Either, left, right, In, here, there, Rising, next}
+use Rattle.lists.specs.Member.{In, here, there, Rising, next}
 use Rattle.lists.proofs.Logic.{cases, same-bool, no-bool, either, and-right, and-join, clash, decided}
 use Rattle.lists.proofs.Members.{all-at, all-by, any-by, any-at, keep-in, in-keep, any-append, rising-above, none-in, last-in, last-top}
 use Rattle.lists.proofs.Keep.{keep-same, keep-keep, keep-short}
 
 pub or-grows : (a b c d : Bool) → (a ≡ true → c ≡ true) → (b ≡ true → d ≡ true) → (a || b) ≡ true → (c || d) ≡ true
-or-grows a b c d f g h = (either c d) .1 (cases ((either a b) .0 h) (λ e. left (f e)) (λ e. right (g e)))
+or-grows a b c d f g h = (either c d) .1 (cases ((either a b) .0 h) (λ e. inl (f e)) (λ e. inr (g e)))
 
 module _ {A : Type 0} where
   pub all-grows : (f g : A → Bool) (xs : List A) → ((x : A) → f x ≡ true → g x ≡ true) → all f xs ≡ true → all g xs ≡ true
@@ -48,10 +49,10 @@ module _ {A : Type 0} where
   in-right (x ∷ xs) i = there (in-right xs i)
 
   -- one more at the end
-  pub in-snoc : (xs : List A) {x y : A} → In x (xs ++ (y ∷ [])) → Either (In x xs) (x ≡ y)
-  in-snoc [] (here q) = right q
-  in-snoc (z ∷ xs) (here q) = left (here q)
-  in-snoc (z ∷ xs) (there i) = cases (in-snoc xs i) (λ j. left (there j)) right
+  pub in-snoc : (xs : List A) {x y : A} → In x (xs ++ (y ∷ [])) → (In x xs) ⊎ (x ≡ y)
+  in-snoc [] (here q) = inr q
+  in-snoc (z ∷ xs) (here q) = inl (here q)
+  in-snoc (z ∷ xs) (there i) = cases (in-snoc xs i) (λ j. inl (there j)) inr
 
   pub any-snoc : (f : A → Bool) (xs : List A) (y : A) → any f (xs ++ (y ∷ [])) ≡ (any f xs || f y)
   unfolding any

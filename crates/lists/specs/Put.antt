@@ -1,4 +1,4 @@
--- What a writer leaves in a buffer; the contracts of private functions cite it. Definitions only.
+-- What a writer leaves in a buffer; the contracts of private functions cite it, and no rule is stated here. Definitions only.
 use mathlib.Core.Path.{_≡_}
 use mathlib.Core.List.{List}
 use Prim.Native.Nat.{ℕ, _+_}

@@ -1,4 +1,4 @@
--- Lists, and tests over them and over the numbers below a bound. Definitions only.
+-- Lists, and tests over them and over the numbers below a bound: common words, which state no rule of their own. Definitions only.
 use mathlib.Core.Bool.{Bool, true, false, _&&_, _||_, cond}
 use mathlib.Core.List.{List, [], _∷_, map}
 use Prim.Native.Nat.{ℕ, zero, suc}

@@ -6,16 +6,16 @@ use lib.ListN.{length, replicate}
 use Rattle.lists.specs.Seq.{keep, upFrom, allBelow}
 use Rattle.plan.specs.Plan.{kindNumber, isKind, kindOf, size, kindByte, kind, parent, childrenBelow, children, childCount, depthWithin, depth}
 use Rattle.plan.specs.Check.{lengthOk, kindOk, parentOk, underBlock, fits, countOk, depthOk, atAll, checkNumber, fitNumber}
-use Rattle.pass.specs.Pass.{goesBy, goes, oneOrTwo, badAnswer, badPick, closes, goodMark, childMark, skip, note, ending, endOf, nothing, unwalked, noted, meetBy, meet, walk, close, settleIf, settleBy, settle, Passed, passed, numberOf, rootMark, passOf, pass, passNumber, passInto}
+use Rattle.pass.specs.Pass.{goesBy, goes, oneOrTwo, badAnswer, badPick, closes, goodMark, childMark, skip, note, ending, endOf, nothing, unwalked, childSettled, meetBy, meet, walk, close, settleIf, settleBy, settle, PassResult, passResult, numberOf, rootMark, passOf, pass, passNumber, passInto}
 
 -- the lent marks are nines, one an answer
 pub record Case : Type 0 where
   pub plan : List ℕ
   pub answers : List ℕ
-  pub result : Passed
+  pub result : PassResult
 
 case : List ℕ → List ℕ → ℕ → List ℕ → Case
-case p a n m = record { plan = p; answers = a; result = passed n m }
+case p a n m = record { plan = p; answers = a; result = passResult n m }
 
 -- a serial of a task, an xor of two tasks, and a task
 abbrev P : List ℕ
@@ -58,5 +58,5 @@ cases =
     ∷ []
 
 pub all-right : map (λ k. passInto (k .plan) (k .answers) (replicate (length (k .answers)) 9)) cases ≡ map (λ k. k .result) cases
-unfolding passInto passNumber fitNumber pass passOf numberOf rootMark settle settleBy settleIf close walk meet meetBy noted unwalked nothing endOf ending note skip childMark goodMark closes badPick badAnswer oneOrTwo goes goesBy checkNumber lengthOk atAll kindOk parentOk underBlock fits countOk depthOk kindNumber isKind kindOf size kindByte kind parent childrenBelow children childCount depthWithin depth keep upFrom allBelow cases case
+unfolding passInto passNumber fitNumber pass passOf numberOf rootMark settle settleBy settleIf close walk meet meetBy childSettled unwalked nothing endOf ending note skip childMark goodMark closes badPick badAnswer oneOrTwo goes goesBy checkNumber lengthOk atAll kindOk parentOk underBlock fits countOk depthOk kindNumber isKind kindOf size kindByte kind parent childrenBelow children childCount depthWithin depth keep upFrom allBelow cases case
 all-right = refl

@@ -13,13 +13,13 @@ use Rattle.lists.proofs.Lent.{fresh-zeros, fresh-length}
 use Rattle.plan.specs.Plan.{size}
 use Rattle.plan.specs.Check.{fitNumber}
 use Rattle.plan.proofs.Main.{fit-exact}
-use Rattle.pass.specs.Pass.{numberOf, rootMark, passOf, pass, passed, passNumber, passInto}
+use Rattle.pass.specs.Pass.{numberOf, rootMark, passOf, pass, passResult, passNumber, passInto}
 use Rattle.pass.specs.Values.{outcomeOf, Ready, Settles}
 use Rattle.pass.proofs.StateLaws.{worked-or-broke, end-fault}
 
 -- k is what `fit` answered, n the node count
 module _ (p a m : List ℕ) (k n : ℕ) (count : n ≡ size p) (told : k ≡ fitNumber p (eqb (length a) n && eqb (length m) n)) where
-  pub into-refused : (k ≡ 0 → ⊥) → passInto p a m ≡ passed k m
+  pub into-refused : (k ≡ 0 → ⊥) → passInto p a m ≡ passResult k m
   unfolding passInto passNumber
   into-refused h = rw (← count, ← told, ne-eqb k 0 h)
 
@@ -79,21 +79,21 @@ module _ {p a m : List ℕ} {n : ℕ} {y : List ℕ} {o : ℕ} (root : Root p a 
   pub front-fits : length (front n y) ≤ length m
   front-fits = omega (arith, front-length, root .size-is, root .ready .marks)
 
-  into-pass : passInto p a m ≡ cond (not (eqb (pass p a .number) 0)) (passed (pass p a .number) m) (pass p a)
+  into-pass : passInto p a m ≡ cond (not (eqb (pass p a .number) 0)) (passResult (pass p a .number) m) (pass p a)
   unfolding passInto passNumber
   into-pass =
       let r = root .ready in
       rw (fit-exact p _ .none .1 (r .accepted, and-join _ _ (eq-eqb (length a) (size p) (r .answers)) (eq-eqb (length m) (size p) (r .marks))))
 
-  pass-is : pass p a ≡ passed (numberOf (outcomeOf o)) (set y 0 (rootMark (outcomeOf o)))
+  pass-is : pass p a ≡ passResult (numberOf (outcomeOf o)) (set y 0 (rootMark (outcomeOf o)))
   unfolding pass passOf
   pass-is = rw (← fresh-zeros 160 n (size p) (root .size-is) (root .ready .accepted .few), root .settled .by (size p) (omega arith))
 
-  pub into-fault : 4 < o → passInto p a m ≡ passed o m
+  pub into-fault : 4 < o → passInto p a m ≡ passResult o m
   into-fault h = into-pass ∙ rw (pass-is, root-fault o h, ne-eqb o 0 (λ e. omega arith))
 
   -- s is m with the front copied over it
-  pub into-marks : o ≤ 4 → (s : List ℕ) → s ≡ take (length (front n y)) (front n y) ++ drop (length (front n y)) m → passInto p a m ≡ passed 0 (set s 0 o)
+  pub into-marks : o ≤ 4 → (s : List ℕ) → s ≡ take (length (front n y)) (front n y) ++ drop (length (front n y)) m → passInto p a m ≡ passResult 0 (set s 0 o)
   into-marks h s f =
       let r = root-works o (root .settled .least) h in
       into-pass ∙ rw (pass-is, r .0, r .1, same)

@@ -1,4 +1,4 @@
--- What is settled without a walk: a node whose answer is wrong, and a task; and a block that is ready for one. Assumes nothing.
+-- What is settled without a walk: a task, and a block whose answer is wrong; and a block that is ready for one. Assumes nothing.
 use mathlib.Core.Path.{_≡_, refl, sym, _∙_}
 use mathlib.Core.Bool.{true, false}
 use mathlib.Core.List.{List, []}
@@ -12,7 +12,7 @@ use Rattle.lists.proofs.Logic.{cases, decided}
 use Rattle.plan.specs.Plan.{task, kindOf, size, kindByte, kind}
 use Rattle.plan.proofs.KindLaws.{kind-task}
 use Rattle.pass.specs.Pass.{Settled, walk, nothing, unwalked, oneOrTwo, badAnswer, badPick, closes, ending, endOf, close, settleIf, settleBy, settle}
-use Rattle.pass.specs.Values.{outcomeOf, taskEnd, Ready, Block, Linked, Settles}
+use Rattle.pass.specs.Values.{outcomeOf, taskEnd, Ready, Linked, Settles}
 use Rattle.pass.proofs.StateLaws.{wrong-answer, end-fault}
 use Rattle.pass.proofs.TableLaws.{block-kind}
 
@@ -27,7 +27,7 @@ pub record Begun (p a f s m₀ : List ℕ) (v k x : ℕ) : Type 0 where
 
 -- the block of a node that is ready; bad is the fault of its answer, or 0
 module _ {p a m : List ℕ} {v : ℕ} (r : Ready p a m v) (bad : ℕ) (told : bad ≡ badAnswer (kindOf (getD p (2 * v) 0)) (getD a v 0)) where
-  pub begun : Block p v → (f s : List ℕ) → Linked p f s → bad ≡ 0 → Begun p a f s m v (getD p (2 * v) 0) (getD a v 0)
+  pub begun : (getD p (2 * v) 0 ≡ 1 → ⊥) → (f s : List ℕ) → Linked p f s → bad ≡ 0 → Begun p a f s m v (getD p (2 * v) 0) (getD a v 0)
   unfolding kind kindByte
   begun n f s l e = record { ready = r; links = l; kind-is = refl; answer-is = refl; right = sym told ∙ e; block = block-kind _ (r .accepted .low v (r .node)) (r .accepted .high v (r .node)) n }
 

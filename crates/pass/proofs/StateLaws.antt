@@ -1,19 +1,19 @@
 -- What a block comes to by a byte, its state, is what its tally says, kind by kind. Assumes nothing.
 use mathlib.Core.Path.{_≡_, refl}
 use mathlib.Core.Bool.{Bool, true, false, cond, _&&_, _||_, not, false≢true}
+use mathlib.Core.Logic.{_⊎_, inl, inr}
 use Prim.Native.Nat.{ℕ, suc, _≤_, _<_}
 use native.Mathlib.Omega.{arith}
 use lib.Dec.{eqb}
 use borrow.Author.Tests.{eqb-true, eqb-false, ne-eqb}
-use Rattle.lists.specs.Member.{Either, left, right}
 use Rattle.lists.proofs.Logic.{cases, decided}
 use Rattle.plan.specs.Plan.{Kind, task, serial, and, or, xor, contingency, conditional, waiting, kindNumber, isKind}
 use Rattle.pass.specs.Pass.{Outcome, works, breaks, fault, Tally, oneOrTwo, badAnswer, badPick, closes, goodMark, childMark, note, nothing, ending, endOf}
 use Rattle.pass.specs.Values.{outcomeOf, counted, soFar, comesTo, endsAs}
 
 -- an end that is no fault's number
-pub worked-or-broke : (o : ℕ) → 3 ≤ o → o ≤ 4 → Either (o ≡ 3) (o ≡ 4)
-worked-or-broke o l h = cases (decided (eqb o 3)) (λ e. left (eqb-true o 3 e)) (λ e. let n = eqb-false o 3 e in right (omega arith))
+pub worked-or-broke : (o : ℕ) → 3 ≤ o → o ≤ 4 → (o ≡ 3) ⊎ (o ≡ 4)
+worked-or-broke o l h = cases (decided (eqb o 3)) (λ e. inl (eqb-true o 3 e)) (λ e. let n = eqb-false o 3 e in inr (omega arith))
 
 pub end-fault : (o : ℕ) → 4 < o → outcomeOf o ≡ fault o
 unfolding outcomeOf

@@ -11,7 +11,7 @@ use borrow.Author.Tests.{eqb-true, eqb-false, eq-eqb, ne-eqb}
 use Rattle.lists.proofs.Logic.{cases, decided, and-left, and-right}
 use Rattle.plan.specs.Plan.{Kind, xor, conditional, kindNumber, isKind, kindOf, size}
 use Rattle.plan.proofs.PlanLaws.{Child}
-use Rattle.pass.specs.Pass.{Settled, Tally, Walked, goes, goesBy, skip, note, childMark, noted, meetBy, meet, walk, nothing, unwalked, badAnswer, endOf, close, settleIf, settleBy, settle}
+use Rattle.pass.specs.Pass.{Settled, Tally, Walked, goes, goesBy, skip, note, childMark, childSettled, meetBy, meet, walk, nothing, unwalked, badAnswer, endOf, close, settleIf, settleBy, settle}
 use Rattle.pass.specs.Values.{outcomeOf, counted, soFar, comesTo, saysNo, doneBy, endsAs, Ready, childrenFrom, ledTo, Settles}
 use Rattle.pass.proofs.StateLaws.{note-places, Seen, seen-none, seen-more, Ends, seen-end, mark-place}
 use Rattle.pass.proofs.GoesLaws.{late, Over, end-late, fault-ends, over-fault, over-done, goes-on, begins-on}
@@ -191,7 +191,7 @@ module _ {p a f s m₀ : List ℕ} {v k x : ℕ} {m : List ℕ} {e n c : ℕ} (h
 
       met : (fuel : ℕ) → size p ≤ v + suc fuel → settle p a (suc fuel) v m₀
           ≡ close (kindOf k) x (walk (settle p a fuel) (kindOf k) x (ledTo p v (getD s c 0)) (walked t′ (set m′ c y)))
-      unfolding meet meetBy noted
+      unfolding meet meetBy childSettled
       met fuel g = h .so-far fuel g ∙ ap (close (kindOf k) x) (walk-on (h .begun) fuel c (walked (h .tally) m) l (h .child l .0)
           ∙ ap (walk (settle p a fuel) (kindOf k) x (ledTo p v (getD s c 0))) (rw (h .child l .2, d .by fuel (omega (arith, turn-bounds .falls)), mark-is)))
 

@@ -15,7 +15,7 @@ pub data Outcome : Type 0 where
   works breaks : Outcome
   fault : ℕ → Outcome
 
--- what a block has seen of its children: how many there were, reached or not; whether one worked, one broke, one that works stands in the
+-- F2, F3: what a block has seen of its children: how many there were, reached or not; whether one worked, one broke, one that works stands in the
 -- answer's place; and the first fault's number, or 0
 pub record Tally : Type 0 where
   pub places : ℕ
@@ -86,11 +86,11 @@ childMark k a t works = goodMark k a (suc (t .places))
 childMark k a t breaks = 4
 childMark k a t (fault n) = 0
 
--- the tally after a child that was not reached
+-- F2: the tally after a child that was not reached
 unfoldable pub skip : Tally → Tally
 skip t = record { places = suc (t .places); worked = t .worked; broke = t .broke; chosen = t .chosen; wrong = t .wrong }
 
--- the tally after a child that ended so
+-- F3: the tally after a child that ended so
 unfoldable pub note : ℕ → Tally → Outcome → Tally
 note a t works = record
     { places = suc (t .places); worked = true; broke = t .broke; chosen = t .chosen || eqb (suc (t .places)) a; wrong = t .wrong }
@@ -101,64 +101,70 @@ note a t (fault n) = record { places = suc (t .places); worked = t .worked; brok
 unfoldable pub ending : ℕ → ℕ → Bool → Outcome
 ending w x b = cond (eqb w 0) (cond (eqb x 0) (cond b works breaks) (fault x)) (fault w)
 
+-- F3, F5: how a node of this kind ends by its answer and its tally
 unfoldable pub endOf : Kind → ℕ → Tally → Outcome
 endOf k a t = ending (t .wrong) (badPick k a t) (closes k a t)
 
--- a settled node: how it ended, and the marks that it left
+-- F3, F4: a settled node: how it ended, and the marks that it left
 pub record Settled : Type 0 where
   pub outcome : Outcome
   pub marks : List ℕ
 
--- a block on its way over its children, with the marks so far
+-- F2: a block on its way over its children, with the marks so far
 pub record Walked : Type 0 where
   pub tally : Tally
   pub marks : List ℕ
 
+-- F2: before its first child
 unfoldable pub nothing : Tally
 nothing = record { places = 0; worked = false; broke = false; chosen = false; wrong = 0 }
 
 unfoldable pub unwalked : List ℕ → Walked
 unwalked m = record { tally = nothing; marks = m }
 
--- child c was settled as r
-unfoldable pub noted : Kind → ℕ → Walked → ℕ → Settled → Walked
-noted k a w c r = record { tally = note a (w .tally) (r .outcome); marks = set (r .marks) c (childMark k a (w .tally) (r .outcome)) }
+-- F3, F4: child c was settled as r
+unfoldable pub childSettled : Kind → ℕ → Walked → ℕ → Settled → Walked
+childSettled k a w c r = record { tally = note a (w .tally) (r .outcome); marks = set (r .marks) c (childMark k a (w .tally) (r .outcome)) }
 
+-- F2: the child is settled only where it is reached
 unfoldable pub meetBy : Bool → (ℕ → List ℕ → Settled) → Kind → ℕ → Walked → ℕ → Walked
-meetBy true f k a w c = noted k a w c (f c (w .marks))
+meetBy true f k a w c = childSettled k a w c (f c (w .marks))
 meetBy false f k a w c = record { tally = skip (w .tally); marks = w .marks }
 
--- the block comes to child c; f settles a child
+-- F2: the block comes to child c; f settles a child
 unfoldable pub meet : (ℕ → List ℕ → Settled) → Kind → ℕ → Walked → ℕ → Walked
 meet f k a w c = meetBy (goes k a (w .tally)) f k a w c
 
+-- F2: in rising number
 unfoldable pub walk : (ℕ → List ℕ → Settled) → Kind → ℕ → List ℕ → Walked → Walked
 walk f k a [] w = w
 walk f k a (c ∷ cs) w = walk f k a cs (meet f k a w c)
 
+-- F3: no child is left
 unfoldable pub close : Kind → ℕ → Walked → Settled
 close k a w = record { outcome = endOf k a (w .tally); marks = w .marks }
 
+-- F5: a wrong answer of its own is found before its children
 unfoldable pub settleIf : Bool → Kind → ℕ → (ℕ → List ℕ → Settled) → List ℕ → List ℕ → Settled
 settleIf true k a f cs m = close k a (walk f k a cs (unwalked m))
 settleIf false k a f cs m = record { outcome = fault (badAnswer k a); marks = m }
 
--- a node of kind k with answer a and children cs; f settles a child
+-- F2, F3: a node of kind k with answer a and children cs; f settles a child
 unfoldable pub settleBy : Kind → ℕ → (ℕ → List ℕ → Settled) → List ℕ → List ℕ → Settled
 settleBy k a f cs m = settleIf (eqb (badAnswer k a) 0) k a f cs m
 
--- the node v, by the answers a, with marks m before. A node's children have higher numbers: fuel is enough from the node count less v on
+-- F2: the node v, by the answers a, with marks m before. A node's children have higher numbers: fuel is enough from the node count less v on
 unfoldable pub settle : List ℕ → List ℕ → ℕ → ℕ → List ℕ → Settled
 settle p a zero v m = record { outcome = fault 0; marks = m }
 settle p a (suc fuel) v m = settleBy (kind p v) (getD a v 0) (λ c m′. settle p a fuel c m′) (children p v) m
 
--- a number, 0 where the answers are accepted, and marks
-pub record Passed : Type 0 where
+-- F4, H13: a number, 0 where the answers are accepted, and marks
+pub record PassResult : Type 0 where
   pub number : ℕ
   pub marks : List ℕ
 
-abbrev pub passed : ℕ → List ℕ → Passed
-passed n m = record { number = n; marks = m }
+abbrev pub passResult : ℕ → List ℕ → PassResult
+passResult n m = record { number = n; marks = m }
 
 -- H13: the number of each outcome
 unfoldable pub numberOf : Outcome → ℕ
@@ -172,21 +178,22 @@ rootMark works = 3
 rootMark breaks = 4
 rootMark (fault n) = 0
 
-unfoldable pub passOf : Settled → Passed
+-- F4, H13: what the settled root hands out
+unfoldable pub passOf : Settled → PassResult
 passOf r = record { number = numberOf (r .outcome); marks = set (r .marks) 0 (rootMark (r .outcome)) }
 
 -- F2, F4: the pass over a plan: it reaches the root, and nodes that it does not reach keep mark 0
-unfoldable pub pass : List ℕ → List ℕ → Passed
+unfoldable pub pass : List ℕ → List ℕ → PassResult
 pass p a = passOf (settle p a (size p) 0 (replicate (size p) 0))
 
--- 1 to 6 of the plan, 7 of the lengths (H7)
+-- H0, H7: 1 to 6 of the plan, 7 of the lengths
 unfoldable pub passNumber : List ℕ → List ℕ → List ℕ → ℕ
 passNumber p a m = fitNumber p (eqb (length a) (size p) && eqb (length m) (size p))
 
 -- H0: a call of the pass, with the marks m lent: 1 to 7, then 13 or 14 of the answers (H13). A refused call leaves the marks; any other
 -- leaves every node's
-unfoldable pub passInto : List ℕ → List ℕ → List ℕ → Passed
+unfoldable pub passInto : List ℕ → List ℕ → List ℕ → PassResult
 passInto p a m =
-    cond (not (eqb (passNumber p a m) 0)) (passed (passNumber p a m) m)
-    (cond (not (eqb (pass p a .number) 0)) (passed (pass p a .number) m)
+    cond (not (eqb (passNumber p a m) 0)) (passResult (passNumber p a m) m)
+    (cond (not (eqb (pass p a .number) 0)) (passResult (pass p a .number) m)
     (pass p a))

@@ -6,11 +6,11 @@ use Prim.Native.Nat.{ℕ, _+_, _-_, _≤_, _<_}
 use lib.Dec.{eqb}
 use lib.ListN.{length, getD}
 use Rattle.lists.specs.Seq.{keep, upFrom}
-use Rattle.plan.specs.Plan.{Kind, task, serial, and, or, xor, contingency, conditional, waiting, isKind, size, kindByte, parent}
+use Rattle.plan.specs.Plan.{Kind, task, serial, and, or, xor, contingency, conditional, waiting, isKind, size, parent}
 use Rattle.plan.specs.Check.{Accepted}
 use Rattle.pass.specs.Pass.{Outcome, works, breaks, fault, Tally, settle}
 
--- how a node ended, by its byte
+-- F3, F5: how a node ended, by its byte
 unfoldable pub outcomeOf : ℕ → Outcome
 outcomeOf o = cond (eqb o 3) works (cond (eqb o 4) breaks (fault o))
 
@@ -18,11 +18,11 @@ outcomeOf o = cond (eqb o 3) works (cond (eqb o 4) breaks (fault o))
 unfoldable pub taskEnd : ℕ → ℕ
 taskEnd a = cond (eqb a 1) 3 (cond (eqb a 2) 4 13)
 
--- so many children, of which nothing is known
+-- F2: so many children, of which nothing is known
 unfoldable pub counted : ℕ → Tally
 counted n = record { places = n; worked = false; broke = false; chosen = false; wrong = 0 }
 
--- what a block comes to by its tally: 3 it works, 4 it breaks, 5 children of an xor offer, but not the picked one
+-- F3: what a block comes to by its tally: 3 it works, 4 it breaks, 5 children of an xor offer, but not the picked one
 unfoldable pub soFar : Kind → Tally → ℕ
 soFar task t = cond (t .worked) 3 4
 soFar serial t = cond (t .broke) 4 3
@@ -33,11 +33,11 @@ soFar contingency t = cond (t .worked) 3 4
 soFar conditional t = cond (t .worked) 3 4
 soFar waiting t = cond (t .broke) 4 3
 
--- what a block that came to e, and to s at first, comes to after a child with mark m: a mark other than s turns it, but 5 not from 3
+-- F3: what a block that came to e, and to s at first, comes to after a child with mark m: a mark other than s turns it, but 5 not from 3
 unfoldable pub comesTo : ℕ → ℕ → ℕ → ℕ
 comesTo s e m = cond (eqb m 5) (cond (eqb e 4) 5 e) (cond (eqb m s) e m)
 
--- a conditional is answered by no
+-- F1, F2: a conditional is answered by no
 unfoldable pub saysNo : Kind → ℕ → Bool
 saysNo k a = isKind conditional k && eqb a 2
 
@@ -49,31 +49,27 @@ doneBy k a o = cond (isKind serial k) (eqb o 4) (cond (isKind contingency k) (eq
 unfoldable pub endsAs : Kind → ℕ → ℕ → ℕ
 endsAs k a e = cond (isKind xor k && not (eqb e 3)) (cond (eqb e 4 && eqb a 0) 4 14) e
 
--- node v can be settled: an accepted plan, one answer and one mark a node
+-- H0, H7: node v can be settled: an accepted plan, one answer and one mark a node
 pub record Ready (p a m : List ℕ) (v : ℕ) : Type 0 where
   pub accepted : Accepted p
   pub answers : length a ≡ size p
   pub marks : length m ≡ size p
   pub node : v < size p
 
--- node v is a block
-abbrev pub Block : List ℕ → ℕ → Type 0
-Block p v = kindByte p v ≡ 1 → ⊥
-
--- v's children from node c on
+-- A4: v's children from node c on
 unfoldable pub childrenFrom : List ℕ → ℕ → ℕ → List ℕ
 childrenFrom p v c = keep (λ d. eqb (parent p d) v) (upFrom c (size p - c))
 
--- v's children from c on, where c is one of them; 0, which is nobody's child, stands for none
+-- A4: v's children from c on, where c is one of them; 0, which is nobody's child, stands for none
 unfoldable pub ledTo : List ℕ → ℕ → ℕ → List ℕ
 ledTo p v c = cond (eqb c 0) [] (c ∷ childrenFrom p v (c + 1))
 
--- `first` leads to each node's children, `next` to the children behind it
+-- A4: `first` leads to each node's children, `next` to the children behind it
 pub record Linked (p first next : List ℕ) : Type 0 where
   pub child : (v : ℕ) → v < size p → childrenFrom p v 1 ≡ ledTo p v (getD first v 0)
   pub sibling : (c : ℕ) → 0 < c → c < size p → childrenFrom p (parent p c) (c + 1) ≡ ledTo p (parent p c) (getD next c 0)
 
--- settling v, where the marks were m, ends as o and leaves the marks n, whatever fuel is enough
+-- F2 to F5: settling v, where the marks were m, ends as o and leaves the marks n, whatever fuel is enough
 pub record Settles (p a m : List ℕ) (v : ℕ) (n : List ℕ) (o : ℕ) : Type 0 where
   pub by : (fuel : ℕ) → size p ≤ v + fuel → settle p a fuel v m ≡ record { outcome = outcomeOf o; marks = n }
   pub least : 3 ≤ o

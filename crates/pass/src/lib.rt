@@ -8,8 +8,8 @@ ghost use Prim.Native.Nat.{_<_};
 ghost use lib.ListN.{replicate};
 ghost use Rattle.plan.specs.Plan.{kindOf};
 ghost use Rattle.plan.specs.Check.{Accepted};
-ghost use Rattle.pass.specs.Pass.{badAnswer, childMark, nothing, passed, passInto};
-ghost use Rattle.pass.specs.Values.{outcomeOf, taskEnd, counted, soFar, comesTo, saysNo, doneBy, endsAs, Ready, Block, Linked, Settles};
+ghost use Rattle.pass.specs.Pass.{badAnswer, childMark, nothing, passResult, passInto};
+ghost use Rattle.pass.specs.Values.{outcomeOf, taskEnd, counted, soFar, comesTo, saysNo, doneBy, endsAs, Ready, Linked, Settles};
 
 // The fault of a node's answer that is found before its children, or 0.
 fn bad_answer(kind: u8, answer: u8) -> u8
@@ -130,7 +130,7 @@ fn link_all(plan: &[u8], first: &mut [u8; 160], next: &mut [u8; 160])
     }
 }
 
-// Settles a block: leaves the marks of the nodes below it, and answers how it ended.
+// Settles a node: leaves the marks of the nodes below it, and answers how it ended.
 fn settle(
     plan: &[u8],
     answers: &[u8],
@@ -139,11 +139,14 @@ fn settle(
     marks: &mut [u8],
     node: usize,
 ) -> u8
-    requires { ⌜ Ready (now plan) (now answers) (now marks) node × Block (now plan) node × Linked (now plan) (now first) (now next) ⌝ }
+    requires { ⌜ Ready (now plan) (now answers) (now marks) node × Linked (now plan) (now first) (now next) ⌝ }
     ensures { λ r. ⌜ Settles (now (plan .entry)) (now (answers .entry)) (now (marks .entry)) node (now (marks .exit)) r ⌝ }
 {
     let kind = plan[2 * node];
     let answer = answers[node];
+    if kind == 1 {
+        return task_end(answer);
+    }
     let bad = bad_answer(kind, answer);
     if bad != 0 {
         return bad;
@@ -156,12 +159,7 @@ fn settle(
         c = plan::wide(next[c]);
     }
     while c != 0 {
-        // most nodes are tasks, and a call costs more than all else here
-        let o = if plan[2 * c] == 1 {
-            task_end(answers[c])
-        } else {
-            settle(plan, answers, first, next, marks, c)
-        };
+        let o = settle(plan, answers, first, next, marks, c);
         let mark = child_mark(kind, answer, places, o);
         marks[c] = mark;
         if 4 < o {
@@ -177,14 +175,11 @@ fn settle(
     ends_as(kind, answer, state)
 }
 
-// Settles the root.
+// Settles the root, with links of its own making.
 fn settle_root(plan: &[u8], answers: &[u8], marks: &mut [u8]) -> u8
     requires { ⌜ Ready (now plan) (now answers) (now marks) 0 ⌝ }
     ensures { λ r. ⌜ Settles (now (plan .entry)) (now (answers .entry)) (now (marks .entry)) 0 (now (marks .exit)) r ⌝ }
 {
-    if plan[0] == 1 {
-        return task_end(answers[0]);
-    }
     let mut first = [0u8; 160];
     let mut next = [0u8; 160];
     link_all(plan, &mut first, &mut next);
@@ -194,7 +189,7 @@ fn settle_root(plan: &[u8], answers: &[u8], marks: &mut [u8]) -> u8
 // The pass over an accepted plan, with one answer and one mark a node.
 fn settle_all(plan: &[u8], answers: &[u8], marks: &mut [u8]) -> u8
     requires { ⌜ Ready (now plan) (now answers) (now marks) 0 ⌝ }
-    ensures { λ r. ⌜ passInto (now (plan .entry)) (now (answers .entry)) (now (marks .entry)) ≡ passed r (now (marks .exit)) ⌝ }
+    ensures { λ r. ⌜ passInto (now (plan .entry)) (now (answers .entry)) (now (marks .entry)) ≡ passResult r (now (marks .exit)) ⌝ }
 {
     let n = plan::node_count(plan);
     let mut buf = [0u8; 160];
@@ -209,7 +204,7 @@ fn settle_all(plan: &[u8], answers: &[u8], marks: &mut [u8]) -> u8
 
 // The single pass: the number of what was refused and the marks as they were, or 0 and every node's mark.
 pub fn pass(plan: &[u8], answers: &[u8], marks: &mut [u8]) -> u8
-    ensures { λ r. ⌜ passInto (now (plan .entry)) (now (answers .entry)) (now (marks .entry)) ≡ passed r (now (marks .exit)) ⌝ }
+    ensures { λ r. ⌜ passInto (now (plan .entry)) (now (answers .entry)) (now (marks .entry)) ≡ passResult r (now (marks .exit)) ⌝ }
 {
     let n = plan::node_count(plan);
     let bad = checker::fit(plan, (answers.len() == n) & (marks.len() == n));

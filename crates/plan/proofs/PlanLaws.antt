@@ -1,7 +1,7 @@
 -- Laws of specs/Plan.antt: who a node's children are and in which order, and depths. Assumes nothing.
 use mathlib.Core.Path.{_≡_, refl, _∙_, ap}
 use mathlib.Core.Bool.{cond}
-use mathlib.Core.List.{List, [], _∷_, _++_, append-nil}
+use mathlib.Core.List.{List, [], _∷_, _++_}
 use Prim.Native.Nat.{ℕ, zero, suc, pred, _+_, _<_}
 use lib.Dec.{eqb}
 use borrow.Author.Tests.{eqb-true, eqb-false, eq-eqb, ne-eqb}
@@ -43,17 +43,6 @@ children-suc p v u l =
     let e : pred (v + 1) ≡ suc (pred v) = omega arith in
     let f : 1 + pred v ≡ v = omega arith in
     rw (e, up-suc 1 (pred v), f) (keep-append (λ c. eqb (parent p c) u) (upFrom 1 (pred v)) (v ∷ []))
-
--- what a loop over the nodes gathers of u's children, from node 1 to the end
-pub children-none : (p : List ℕ) (u : ℕ) → childrenBelow p 1 u ≡ []
-unfolding childrenBelow keep upFrom
-children-none p u = refl
-
-pub children-yes : (p : List ℕ) (c u : ℕ) → 0 < c → parent p c ≡ u → childrenBelow p (c + 1) u ≡ childrenBelow p c u ++ (c ∷ [])
-children-yes p c u l e = children-suc p c u l ∙ rw (eq-eqb (parent p c) u e)
-
-pub children-no : (p : List ℕ) (c u : ℕ) → 0 < c → (parent p c ≡ u → ⊥) → childrenBelow p (c + 1) u ≡ childrenBelow p c u
-children-no p c u l e = children-suc p c u l ∙ rw (ne-eqb (parent p c) u e) (append-nil (childrenBelow p c u))
 
 -- the kind is read off the kind byte
 pub kind-byte : (p : List ℕ) (v : ℕ) → kind p v ≡ kindOf (kindByte p v)

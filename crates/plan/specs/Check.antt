@@ -9,23 +9,23 @@ use lib.Dec.{eqb, ltb, leb}
 use Rattle.lists.specs.Seq.{allBelow}
 use Rattle.plan.specs.Plan.{Kind, task, serial, and, or, xor, contingency, conditional, waiting, size, kindByte, kind, parent, children, childCount, depth}
 
--- H1: plan length odd, 0 or above 320 bytes
+-- A1, H1: bytes come in pairs, at least one and at most 160
 unfoldable pub lengthOk : List ℕ → Bool
 lengthOk p = eqb (length p % 2) 0 && ltb 0 (length p) && leb (length p) 320
 
--- H2: kind not 01 to 08
+-- A2, H2: v's first byte is one of the eight kinds
 unfoldable pub kindOk : List ℕ → ℕ → Bool
 kindOk p v = leb 1 (kindByte p v) && leb (kindByte p v) 8
 
--- H3: root's parent not ff, another's not below its number
+-- A3, H3: v comes after its parent, and the root names ff instead of one
 unfoldable pub parentOk : List ℕ → ℕ → Bool
 parentOk p v = cond (eqb v 0) (eqb (parent p v) 255) (ltb (parent p v) v)
 
--- H4: parent is a task
+-- H4: v's parent can have children; the root asks for none
 unfoldable pub underBlock : List ℕ → ℕ → Bool
 underBlock p v = cond (eqb v 0) true (not (eqb (kindByte p (parent p v)) 1))
 
--- H5: wrong number of children. A block has 1 to 32, a conditional exactly 2, a task none
+-- A5: a node of this kind may have n children: a task none, a conditional two, any other block from one to 32
 unfoldable pub fits : Kind → ℕ → Bool
 fits task n = eqb n 0
 fits serial n = leb 1 n && leb n 32
@@ -36,14 +36,15 @@ fits contingency n = leb 1 n && leb n 32
 fits conditional n = eqb n 2
 fits waiting n = leb 1 n && leb n 32
 
+-- H5: v has as many as its kind may have
 unfoldable pub countOk : List ℕ → ℕ → Bool
 countOk p v = fits (kind p v) (childCount p v)
 
--- H6: depth above 32
+-- A6, H6: v is at most 32 deep
 unfoldable pub depthOk : List ℕ → ℕ → Bool
 depthOk p v = leb (depth p v) 32
 
--- each of 2 to 6, tried over the whole plan
+-- H0: each of 2 to 6 is tried at every node before the next
 unfoldable pub atAll : (List ℕ → ℕ → Bool) → List ℕ → Bool
 atAll ok p = allBelow (ok p) (size p)
 
@@ -61,13 +62,13 @@ checkNumber p =
 unfoldable pub fitNumber : List ℕ → Bool → ℕ
 fitNumber p right = cond (not (eqb (checkNumber p) 0)) (checkNumber p) (cond (not right) 7 0)
 
--- What tests 1 and 3 tell: 1 to 160 nodes, every parent number but the root's below its own.
+-- A1, A3: what tests 1 and 3 tell: 1 to 160 nodes, every parent number but the root's below its own.
 pub record Ordered (p : List ℕ) : Type 0 where
   pub some : 0 < size p
   pub few : size p ≤ 160
   pub below : (v : ℕ) → 0 < v → v < size p → parent p v < v
 
--- The root has depth 1, and another node its parent's plus 1.
+-- A6: the root has depth 1, and another node its parent's plus 1.
 abbrev pub DepthSteps : Type 0
 DepthSteps = (p : List ℕ) → Ordered p → (depth p 0 ≡ 1) × ((v : ℕ) → 0 < v → v < size p → depth p v ≡ suc (depth p (parent p v)))
 
@@ -86,11 +87,11 @@ pub record Accepted (p : List ℕ) : Type 0 where
   pub two : (v : ℕ) → v < size p → kind p v ≡ conditional → length (children p v) ≡ 2
   pub shallow : (v : ℕ) → v < size p → depth p v ≤ 32
 
--- MAIN CLAIM. The check passes every plan within the limits, and no other.
+-- MAIN CLAIM (rules A, H1 to H6). The check passes every plan within the limits, and no other.
 abbrev pub CheckExact : Type 0
 CheckExact = (p : List ℕ) → (checkNumber p ≡ 0) ↔ Accepted p
 
--- CLAIM. With bytes lent: 0 is for the plans within the limits with right lengths alone, and a plan's own number comes before 7.
+-- CLAIM (H0, H7). With bytes lent: 0 is for the plans within the limits with right lengths alone, and a plan's own number comes before 7.
 pub record Fitted (p : List ℕ) (right : Bool) : Type 0 where
   pub none : (fitNumber p right ≡ 0) ↔ (Accepted p × (right ≡ true))
   pub first : (checkNumber p ≡ 0 → ⊥) → fitNumber p right ≡ checkNumber p

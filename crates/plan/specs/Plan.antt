@@ -21,11 +21,11 @@ kindNumber contingency = 6
 kindNumber conditional = 7
 kindNumber waiting = 8
 
--- k and j are the same kind
+-- A2: k and j are the same kind
 unfoldable pub isKind : Kind → Kind → Bool
 isKind k j = eqb (kindNumber k) (kindNumber j)
 
--- the kind of a byte; a byte that is no kind, which only a refused plan has, is read as a task's
+-- A2: the kind of a byte; a byte that is no kind, which only a refused plan has, is read as a task's
 unfoldable pub kindOf : ℕ → Kind
 kindOf k =
     cond (eqb k 2) serial
@@ -36,17 +36,19 @@ kindOf k =
     (cond (eqb k 7) conditional
     (cond (eqb k 8) waiting task))))))
 
--- A1: a node is two bytes, kind and then parent number
+-- A1: the number of nodes, two bytes each
 unfoldable pub size : List ℕ → ℕ
 size p = length p / 2
 
+-- A1: v's first byte
 unfoldable pub kindByte : List ℕ → ℕ → ℕ
 kindByte p v = getD p (2 * v) 0
 
+-- A2: v's kind
 unfoldable pub kind : List ℕ → ℕ → Kind
 kind p v = kindOf (kindByte p v)
 
--- A3: the parent of v; of the root it is 255, which is no node
+-- A1, A3: v's second byte, its parent; of the root it is 255, which is no node
 unfoldable pub parent : List ℕ → ℕ → ℕ
 parent p v = getD p (2 * v + 1) 0
 
@@ -54,29 +56,31 @@ parent p v = getD p (2 * v + 1) 0
 unfoldable pub childrenBelow : List ℕ → ℕ → ℕ → List ℕ
 childrenBelow p n v = keep (λ c. eqb (parent p c) v) (upFrom 1 (pred n))
 
+-- A4: all of them
 unfoldable pub children : List ℕ → ℕ → List ℕ
 children p v = childrenBelow p (size p) v
 
+-- A5: their number
 unfoldable pub childCount : List ℕ → ℕ → ℕ
 childCount p v = length (children p v)
 
--- v's siblings, rising, v itself left out
+-- A4: the other children of v's parent, rising (the siblings of C6 and C8)
 unfoldable pub others : List ℕ → ℕ → List ℕ
 others p v = keep (λ c. not (eqb c v)) (children p (parent p v))
 
--- the kind of v's parent; a task for the root, which is no block's child
+-- A3: the kind of v's parent; a task for the root, which is no block's child
 unfoldable pub above : List ℕ → ℕ → Kind
 above p v = cond (eqb v 0) task (kind p (parent p v))
 
--- the same as a byte
+-- A3: the same as a byte
 unfoldable pub aboveByte : List ℕ → ℕ → ℕ
 aboveByte p v = cond (eqb v 0) 1 (kindByte p (parent p v))
 
--- v is a child of an xor
+-- A3: v is a child of an xor
 unfoldable pub inXor : List ℕ → ℕ → Bool
 inXor p v = isKind xor (above p v)
 
--- v's depth if the root is at most so many nodes up
+-- A6: v's depth if the root is at most so many nodes up
 unfoldable pub depthWithin : ℕ → List ℕ → ℕ → ℕ
 depthWithin zero p v = 0
 depthWithin (suc nodes) p v = cond (eqb v 0) 1 (suc (depthWithin nodes p (parent p v)))

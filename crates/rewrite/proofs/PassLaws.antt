@@ -6,7 +6,7 @@ use Prim.Native.Nat.{ℕ, zero, suc}
 use lib.Dec.{eqb}
 use lib.ListN.{getD, replicate}
 use Rattle.plan.specs.Plan.{Kind, task, serial, and, or, xor, contingency, conditional, waiting, kindNumber, isKind, size, kind, children}
-use Rattle.pass.specs.Pass.{Outcome, works, breaks, fault, Tally, goesBy, goes, badAnswer, badPick, closes, goodMark, childMark, endOf, Settled, Walked, unwalked, noted, meetBy, meet, walk, close, settleIf, settleBy, settle, passOf, pass}
+use Rattle.pass.specs.Pass.{Outcome, works, breaks, fault, Tally, goesBy, goes, badAnswer, badPick, closes, goodMark, childMark, endOf, Settled, Walked, unwalked, childSettled, meetBy, meet, walk, close, settleIf, settleBy, settle, passOf, pass}
 use Rattle.rewrite.specs.Rewrite.{rewritten}
 use Rattle.rewrite.proofs.PlanLaws.{renewed, size-kept, kind-at, children-at}
 
@@ -16,16 +16,16 @@ mark-alike a t works = refl
 mark-alike a t breaks = refl
 mark-alike a t (fault n) = refl
 
-noted-alike : (a : ℕ) (w : Walked) (c : ℕ) (r : Settled) → noted waiting a w c r ≡ noted and a w c r
-unfolding noted
-noted-alike a w c r = rw (mark-alike a (w .tally) (r .outcome))
+child-settled-alike : (a : ℕ) (w : Walked) (c : ℕ) (r : Settled) → childSettled waiting a w c r ≡ childSettled and a w c r
+unfolding childSettled
+child-settled-alike a w c r = rw (mark-alike a (w .tally) (r .outcome))
 
 meet-alike : (f : ℕ → List ℕ → Settled) (a : ℕ) (w : Walked) (c : ℕ) → meet f waiting a w c ≡ meet f and a w c
 unfolding meet goes goesBy meetBy
 meet-alike f a w c = go (eqb (w .tally .wrong) 0 && true)
   where
     go : (b : Bool) → meetBy b f waiting a w c ≡ meetBy b f and a w c
-    go true = noted-alike a w c (f c (w .marks))
+    go true = child-settled-alike a w c (f c (w .marks))
     go false = refl
 
 walk-alike : (f : ℕ → List ℕ → Settled) (a : ℕ) (cs : List ℕ) (w : Walked) → walk f waiting a cs w ≡ walk f and a cs w

@@ -11,7 +11,7 @@ use Rattle.guard.specs.Guard.{beforeIn, isFirst, startBy, finishBy, abortBy, fi
 use Rattle.guard.specs.Bytes.{encEvents, encClauses, encode}
 use Rattle.central.specs.Mark.{markNumber, isMark}
 use Rattle.central.specs.Central.{fresh, markAfter, answerAfter, pickedAfter, after, reachedBy, mayStart, finishesBy, failsBy, allowedBy, allowed, runFrom, isRun}
-use Rattle.pass.specs.Pass.{Passed, passed, goesBy, goes, goodMark, skip, note, childMark, noted, meetBy, meet, walk, nothing, unwalked, oneOrTwo, badAnswer, badPick, closes, ending, endOf, close, settleIf, settleBy, settle, numberOf, rootMark, passOf, pass}
+use Rattle.pass.specs.Pass.{PassResult, passResult, goesBy, goes, goodMark, skip, note, childMark, childSettled, meetBy, meet, walk, nothing, unwalked, oneOrTwo, badAnswer, badPick, closes, ending, endOf, close, settleIf, settleBy, settle, numberOf, rootMark, passOf, pass}
 use Rattle.retention.specs.Record.{commonTable, classOf, aboveWithin, nodesAbove, fell, countsAbove, countsAs, class, Record, recordOf}
 
 pub data Question : Type 0 where
@@ -21,8 +21,8 @@ pub data Question : Type 0 where
 
 pub data Answer : Type 0 where
   bytes : List ℕ → Answer
-  whole : Passed → Answer
-  recorded : Passed → Record → Answer
+  whole : PassResult → Answer
+  recorded : PassResult → Record → Answer
 
 -- serial 0: task 1, xor 2 of tasks 3 and 4, task 5
 abbrev planP : List ℕ
@@ -54,14 +54,14 @@ cases =
     ∷ case (guard-bytes (at commit 3)) (bytes (1 ∷ 1 ∷ 7 ∷ 3 ∷ []))
     ∷ case (guard-bytes (at abort 0)) (bytes (1 ∷ 3 ∷ 4 ∷ 1 ∷ 4 ∷ 2 ∷ 4 ∷ 5 ∷ []))
     ∷ case (guard-bytes (at offer 3)) (bytes (1 ∷ 1 ∷ 1 ∷ 3 ∷ []))
-    ∷ case (pass-whole (0 ∷ 1 ∷ 1 ∷ 1 ∷ 1 ∷ 1 ∷ [])) (whole (passed 0 (3 ∷ 3 ∷ 3 ∷ 3 ∷ 5 ∷ 3 ∷ [])))
-    ∷ case (pass-whole (0 ∷ 2 ∷ 1 ∷ 1 ∷ 1 ∷ 1 ∷ [])) (whole (passed 0 (4 ∷ 4 ∷ 0 ∷ 0 ∷ 0 ∷ 0 ∷ [])))
+    ∷ case (pass-whole (0 ∷ 1 ∷ 1 ∷ 1 ∷ 1 ∷ 1 ∷ [])) (whole (passResult 0 (3 ∷ 3 ∷ 3 ∷ 3 ∷ 5 ∷ 3 ∷ [])))
+    ∷ case (pass-whole (0 ∷ 2 ∷ 1 ∷ 1 ∷ 1 ∷ 1 ∷ [])) (whole (passResult 0 (4 ∷ 4 ∷ 0 ∷ 0 ∷ 0 ∷ 0 ∷ [])))
     ∷ case (pass-record (2 ∷ 0 ∷ 1 ∷ 1 ∷ []))
-    (recorded (passed 0 (3 ∷ 5 ∷ 3 ∷ 3 ∷ [])) (record { marks = 3 ∷ 5 ∷ 3 ∷ 3 ∷ []; classes = 0 ∷ 0 ∷ 2 ∷ 1 ∷ [] }))
+    (recorded (passResult 0 (3 ∷ 5 ∷ 3 ∷ 3 ∷ [])) (record { marks = 3 ∷ 5 ∷ 3 ∷ 3 ∷ []; classes = 0 ∷ 0 ∷ 2 ∷ 1 ∷ [] }))
     ∷ []
 
 pub all-right : map (λ k. answer (k .asked)) cases ≡ map (λ k. k .told) cases
-unfolding cases case answer recordOf class classOf countsAs countsAbove nodesAbove aboveWithin fell commonTable table any all encode encClauses encEvents guard guardBy startBy finishBy abortBy finishing aborting isFirst headOr beforeIn lastOr above inXor isKind kindNumber kind kindOf kindByte parent size children childrenBelow others keep upFrom codeNumber pass passOf settle settleBy settleIf close endOf ending closes badPick badAnswer oneOrTwo nothing unwalked walk meet meetBy noted note childMark skip goodMark goes goesBy numberOf rootMark
+unfolding cases case answer recordOf class classOf countsAs countsAbove nodesAbove aboveWithin fell commonTable table any all encode encClauses encEvents guard guardBy startBy finishBy abortBy finishing aborting isFirst headOr beforeIn lastOr above inXor isKind kindNumber kind kindOf kindByte parent size children childrenBelow others keep upFrom codeNumber pass passOf settle settleBy settleIf close endOf ending closes badPick badAnswer oneOrTwo nothing unwalked walk meet meetBy childSettled note childMark skip goodMark goes goesBy numberOf rootMark
 all-right = refl
 
 -- an and over two tasks, of kind 03 or 08

@@ -1,4 +1,4 @@
--- A run has at most five times as many events as the plan has nodes: every event adds to its node's weight, which is at most 5. Assumes nothing.
+-- No run is longer than five events a node (I6): every event adds to its node's weight, which is at most 5. Assumes nothing.
 use mathlib.Core.Path.{_≡_, refl, ap}
 use mathlib.Core.Bool.{Bool, true, false, not, _&&_, _||_, cond}
 use mathlib.Core.List.{List, [], _∷_}

@@ -2,11 +2,12 @@
 use mathlib.Core.Path.{_≡_, refl, _∙_}
 use mathlib.Core.Bool.{true, false, not, _||_}
 use mathlib.Core.List.{List}
+use mathlib.Core.Logic.{_⊎_, inl, inr}
 use Prim.Native.Nat.{ℕ, zero, suc, _+_, _≤_, _<_}
 use borrow.Author.Tests.{le-ltb, lt-ltb}
 use native.Mathlib.Omega.{arith}
 use Rattle.lists.specs.Seq.{all, any}
-use Rattle.lists.specs.Member.{Either, left, right, In}
+use Rattle.lists.specs.Member.{In}
 use Rattle.lists.proofs.Logic.{cases, either, and-join, clash, decided}
 use Rattle.lists.proofs.Members.{all-by, any-by}
 use Rattle.lists.proofs.Points.{any-none, all-missed}
@@ -27,7 +28,7 @@ module _ (p : List ℕ) (ok : Accepted p) (s : Central) (good : Good p s) (stuck
     (kids : (c : ℕ) → In c (children p v) → started s c ≡ true → ended s c ≡ true) where
   -- outside an xor
   plain : isKind xor (kind p v) ≡ false → (c : ℕ) → In c (children p v) → started s c ≡ true →
-      Either (marked s committed c ≡ true) (marked s failed c ≡ true)
+      (marked s committed c ≡ true) ⊎ (marked s failed c ≡ true)
   unfolding ended
   plain x c i sc = cases ((either (marked s committed c || marked s failed c) (marked s turned-down c)) .0 (kids c i sc))
       ((either (marked s committed c) (marked s failed c)) .0)
@@ -46,7 +47,7 @@ module _ (p : List ℕ) (ok : Accepted p) (s : Central) (good : Good p s) (stuck
   unfolding reachedBy isKind kindNumber
   contingency-chain k top clear c i l =
       chain-until (marked s failed) (marked s committed) (children p v)
-      (λ d j e. cases (plain (rw k) d j (starts p ok s stuck v d j st (rw k e))) right left)
+      (λ d j e. cases (plain (rw k) d j (starts p ok s stuck v d j st (rw k e))) inr inl)
       top clear (suc c) c (omega arith) i l
 
   -- a picked child is committed
@@ -68,18 +69,18 @@ module _ (p : List ℕ) (ok : Accepted p) (s : Central) (good : Good p s) (stuck
   all-start r c i = starts p ok s stuck v c i st (r c)
 
   abbrev Ready : Kind → Type 0
-  Ready k = Either (finishesBy k s v (children p v) ≡ true) (failsBy k s v (children p v) ≡ true)
+  Ready k = (finishesBy k s v (children p v) ≡ true) ⊎ (failsBy k s v (children p v) ≡ true)
 
   ready-serial : kind p v ≡ serial → Ready serial
   unfolding finishesBy failsBy
-  ready-serial k = cases (decided (any (marked s failed) (children p v))) right
-      (λ e. left (all-by (marked s committed) (children p v) (λ c i.
+  ready-serial k = cases (decided (any (marked s failed) (children p v))) inr
+      (λ e. inl (all-by (marked s committed) (children p v) (λ c i.
       serial-chain k (size p) (λ d j l. any-none (marked s failed) j e) c i (child-high p v c i))))
 
   ready-contingency : kind p v ≡ contingency → Ready contingency
   unfolding finishesBy failsBy
-  ready-contingency k = cases (decided (any (marked s committed) (children p v))) left
-      (λ e. right (all-by (marked s failed) (children p v) (λ c i.
+  ready-contingency k = cases (decided (any (marked s committed) (children p v))) inl
+      (λ e. inr (all-by (marked s failed) (children p v) (λ c i.
       contingency-chain k (size p) (λ d j l. any-none (marked s committed) j e) c i (child-high p v c i))))
 
   -- every child of an and, an or: it is committed or has failed
@@ -96,25 +97,25 @@ module _ (p : List ℕ) (ok : Accepted p) (s : Central) (good : Good p s) (stuck
 
   ready-and : kind p v ≡ and → Ready and
   unfolding finishesBy failsBy reachedBy isKind kindNumber
-  ready-and k = cases (decided (all (marked s committed) (children p v))) left (λ e. right (one-failed (rw k) (λ c. rw k) e))
+  ready-and k = cases (decided (all (marked s committed) (children p v))) inl (λ e. inr (one-failed (rw k) (λ c. rw k) e))
 
   ready-waiting : kind p v ≡ waiting → Ready waiting
   unfolding finishesBy failsBy reachedBy isKind kindNumber
-  ready-waiting k = cases (decided (all (marked s committed) (children p v))) left
-      (λ e. right (and-join _ _ (each-ended (rw k) (λ c. rw k)) (one-failed (rw k) (λ c. rw k) e)))
+  ready-waiting k = cases (decided (all (marked s committed) (children p v))) inl
+      (λ e. inr (and-join _ _ (each-ended (rw k) (λ c. rw k)) (one-failed (rw k) (λ c. rw k) e)))
 
   ready-or : kind p v ≡ or → Ready or
   unfolding finishesBy failsBy reachedBy isKind kindNumber
   ready-or k = cases (decided (any (marked s committed) (children p v)))
-      (λ e. left (and-join _ _ (each-ended (rw k) (λ c. rw k)) e))
-      (λ e. right (all-by (marked s failed) (children p v) (λ c i.
+      (λ e. inl (and-join _ _ (each-ended (rw k) (λ c. rw k)) e))
+      (λ e. inr (all-by (marked s failed) (children p v) (λ c i.
       cases (plain (rw k) c i (all-start (λ d. rw k) c i)) (λ h. clash _ h (any-none (marked s committed) i e)) (λ h. h))))
 
   ready-xor : kind p v ≡ xor → Ready xor
   unfolding finishesBy failsBy reachedBy ended
   ready-xor k = cases (decided (any (marked s committed) (children p v)))
-      (λ e. left (and-join _ _ (all-by _ (children p v) (λ c i. kids c i (all-start (λ d. rw k) c i))) e))
-      (λ e. right (all-by (marked s failed) (children p v) (λ c i. fails e c i (kids c i (all-start (λ d. rw k) c i)))))
+      (λ e. inl (and-join _ _ (all-by _ (children p v) (λ c i. kids c i (all-start (λ d. rw k) c i))) e))
+      (λ e. inr (all-by (marked s failed) (children p v) (λ c i. fails e c i (kids c i (all-start (λ d. rw k) c i)))))
     where
       fails : any (marked s committed) (children p v) ≡ false → (c : ℕ) → In c (children p v) →
           (marked s committed c || marked s failed c || marked s turned-down c) ≡ true → marked s failed c ≡ true
@@ -137,12 +138,12 @@ module _ (p : List ℕ) (ok : Accepted p) (s : Central) (good : Good p s) (stuck
       let r = two-of (children p v) (rising-children p v) (ok .two v small k) in
       let t = r .2 in
       cases (is-answered p ok s stuck v small k st)
-      (λ e. cases (plain (rw k) (r .0) (t .first) (first-starts (r .0) (r .1) t k e)) (λ h. left (rw (t .are, e) h)) (λ h. right (rw (t .are, e) h)))
-      (λ e. cases (plain (rw k) (r .1) (t .second) (second-starts (r .0) (r .1) t k e)) (λ h. left (rw (t .are, e) h)) (λ h. right (rw (t .are, e) h)))
+      (λ e. cases (plain (rw k) (r .0) (t .first) (first-starts (r .0) (r .1) t k e)) (λ h. inl (rw (t .are, e) h)) (λ h. inr (rw (t .are, e) h)))
+      (λ e. cases (plain (rw k) (r .1) (t .second) (second-starts (r .0) (r .1) t k e)) (λ h. inl (rw (t .are, e) h)) (λ h. inr (rw (t .are, e) h)))
 
   ready : (k : Kind) → kind p v ≡ k → Ready k
   unfolding finishesBy
-  ready task k = left refl
+  ready task k = inl refl
   ready serial k = ready-serial k
   ready and k = ready-and k
   ready or k = ready-or k

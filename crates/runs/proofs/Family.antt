@@ -2,13 +2,14 @@
 use mathlib.Core.Path.{_≡_, refl, sym, _∙_, ap}
 use mathlib.Core.Bool.{Bool, true, false, cond, false≢true}
 use mathlib.Core.List.{List, _∷_}
+use mathlib.Core.Logic.{_⊎_, inl, inr}
 use Prim.Native.Nat.{ℕ, zero, suc, _≤_, _<_}
 use lib.Dec.{eqb}
 use lib.ListN.{length}
 use borrow.Author.Tests.{eqb-false, eqb-true, ne-eqb}
 use native.Mathlib.Omega.{arith}
 use Rattle.lists.specs.Seq.{all, headOr, lastOr, earlier}
-use Rattle.lists.specs.Member.{Either, left, right, In, here, there, Rising, next}
+use Rattle.lists.specs.Member.{In, here, there, Rising, next}
 use Rattle.lists.proofs.Logic.{cases, same-bool, clash, decided}
 use Rattle.lists.proofs.Members.{all-at, all-by, rising-above}
 use Rattle.lists.proofs.Points.{in-earlier, earlier-in, last-member, last-greatest}
@@ -78,7 +79,7 @@ module _ (H : ℕ → Bool) (cs : List ℕ) (rising : Rising 0 cs) (chain : (c :
       (all-at H (in-earlier (b .member) (b .less)))
 
 -- where each whose earlier ones all are as f is as f or as h, all below top are as f if none of them is as h
-pub chain-until : (f h : ℕ → Bool) (cs : List ℕ) → ((c : ℕ) → In c cs → all f (earlier cs c) ≡ true → Either (f c ≡ true) (h c ≡ true)) →
+pub chain-until : (f h : ℕ → Bool) (cs : List ℕ) → ((c : ℕ) → In c cs → all f (earlier cs c) ≡ true → (f c ≡ true) ⊎ (h c ≡ true)) →
     (top : ℕ) → ((c : ℕ) → In c cs → c < top → h c ≡ false) → (n c : ℕ) → c < n → In c cs → c < top → f c ≡ true
 chain-until f h cs goes top clear zero c l i t = absurd (omega arith)
 chain-until f h cs goes top clear (suc n) c l i t = cases
@@ -97,16 +98,16 @@ pub not-task : (k : Kind) → isKind task k ≡ false → k ≡ task → ⊥
 unfolding isKind kindNumber
 not-task k h q = false≢true (sym h ∙ ap (isKind task) q)
 
-pub task-or-not : (k : Kind) → Either (k ≡ task) (k ≡ task → ⊥)
+pub task-or-not : (k : Kind) → (k ≡ task) ⊎ (k ≡ task → ⊥)
 unfolding isKind kindNumber
-task-or-not task = left refl
-task-or-not serial = right (not-task serial refl)
-task-or-not and = right (not-task and refl)
-task-or-not or = right (not-task or refl)
-task-or-not xor = right (not-task xor refl)
-task-or-not contingency = right (not-task contingency refl)
-task-or-not conditional = right (not-task conditional refl)
-task-or-not waiting = right (not-task waiting refl)
+task-or-not task = inl refl
+task-or-not serial = inr (not-task serial refl)
+task-or-not and = inr (not-task and refl)
+task-or-not or = inr (not-task or refl)
+task-or-not xor = inr (not-task xor refl)
+task-or-not contingency = inr (not-task contingency refl)
+task-or-not conditional = inr (not-task conditional refl)
+task-or-not waiting = inr (not-task waiting refl)
 
 module _ (p : List ℕ) where
   pub xor-is : (v : ℕ) → isKind xor (kind p v) ≡ true → kind p v ≡ xor

@@ -2,11 +2,12 @@
 use mathlib.Core.Path.{_≡_, refl, sym, _∙_, ap, subst}
 use mathlib.Core.Bool.{Bool, true, false, _&&_, _||_, cond, false≢true, or-true}
 use mathlib.Core.List.{List, [], _∷_}
+use mathlib.Core.Logic.{_⊎_, inl, inr}
 use Prim.Native.Nat.{ℕ}
 use lib.Dec.{eqb, ltb}
 use borrow.Author.Tests.{ltb-true, not-true}
 use Rattle.lists.specs.Seq.{any, earlier}
-use Rattle.lists.specs.Member.{Either, left, right, In}
+use Rattle.lists.specs.Member.{In}
 use Rattle.lists.proofs.Logic.{cases, either, and-join, parts, clash, decided}
 use Rattle.lists.proofs.Members.{any-by}
 use Rattle.lists.proofs.Points.{or-grows, all-grows, any-grows}
@@ -118,8 +119,8 @@ module _ (p : List ℕ) (s : Central) (e : Event) (good : Good p s) (ok : allowe
   grown : Grows p s (after s e)
   grown f h = said-after p s e f ok ∙ rw (h, or-true)
 
-  new : (f : Event) → said p (after s e) f ≡ true → Either (e ≡ f) (said p s f ≡ true)
-  new f h = cases ((either (same e f) (said p s f)) .0 (sym (said-after p s e f ok) ∙ h)) (λ q. left (same-event e f q)) (λ q. right q)
+  new : (f : Event) → said p (after s e) f ≡ true → (e ≡ f) ⊎ (said p s f ≡ true)
+  new f h = cases ((either (same e f) (said p s f)) .0 (sym (said-after p s e f ok) ∙ h)) (λ q. inl (same-event e f q)) (λ q. inr q)
 
   ok-at : (f : Event) → e ≡ f → allowed p s f ≡ true
   ok-at f q = subst (λ (g : Event). allowed p s g ≡ true) q ok

@@ -17,7 +17,7 @@ use Rattle.plan.specs.Check.{Accepted}
 use Rattle.plan.proofs.PlanLaws.{child-of}
 use Rattle.plan.proofs.AcceptedLaws.{child-between}
 use Rattle.event.specs.Event.{same}
-use Rattle.pass.specs.Pass.{Settled, Walked, goes, skip, note, childMark, noted, meetBy, meet, walk, unwalked, badAnswer, endOf, close, settleIf, settleBy, settle, numberOf, rootMark, passOf, pass}
+use Rattle.pass.specs.Pass.{Settled, Walked, goes, skip, note, childMark, childSettled, meetBy, meet, walk, unwalked, badAnswer, endOf, close, settleIf, settleBy, settle, numberOf, rootMark, passOf, pass}
 use Rattle.runs.specs.Claims.{Below, child, deeper, outcomeAt}
 use Rattle.runs.proofs.Family.{child-high}
 use Rattle.runs.proofs.RunLaws.{ends}
@@ -33,7 +33,7 @@ record Abreast (R : List ℕ → List ℕ → Type 0) (t u : Walked) : Type 0 wh
 
 module _ (R : List ℕ → List ℕ → Type 0) (R-set : (m n : List ℕ) (c x : ℕ) → R m n → R (set m c x) (set n c x)) (f g : ℕ → List ℕ → Settled) (k : Kind) (a : ℕ) where
   meet-both : (t u : Walked) (c : ℕ) → ((m n : List ℕ) → R m n → Alike R (f c m) (g c n)) → Abreast R t u → Abreast R (meet f k a t c) (meet g k a u c)
-  unfolding meet meetBy noted
+  unfolding meet meetBy childSettled
   meet-both t u c y i = subst (λ b. Abreast R (meet f k a t c) (meetBy b g k a u c)) (ap (goes k a) (i .tally)) (go (goes k a (t .tally)))
     where
       z : Alike R (f c (t .marks)) (g c (u .marks))
@@ -122,7 +122,7 @@ module _ (P : List ℕ → Type 0) (f : ℕ → List ℕ → Settled) (k : Kind)
   Keeps cs = (c : ℕ) → In c cs → (m : List ℕ) → P m → (x : ℕ) → P (set (f c m .marks) c x)
 
   walk-keeps : (cs : List ℕ) (t : Walked) → Keeps cs → P (t .marks) → P (walk f k a cs t .marks)
-  unfolding walk meet meetBy noted
+  unfolding walk meet meetBy childSettled
   walk-keeps [] t y h = h
   walk-keeps (c ∷ cs) t y h = walk-keeps cs (meet f k a t c) (λ d i. y d (there i)) (go (goes k a (t .tally)))
     where

@@ -1,10 +1,10 @@
 -- Marks by their tests, and how a node that has ended comes out in the pass. Assumes nothing.
 use mathlib.Core.Path.{_≡_, refl, sym, _∙_, ap}
 use mathlib.Core.Bool.{Bool, true, false, not, _&&_, _||_, cond, and-false, or-true}
+use mathlib.Core.Logic.{_⊎_, inl, inr}
 use Prim.Native.Nat.{ℕ}
 use borrow.Author.Tests.{eqb-true, not-false}
 use Rattle.lists.specs.Seq.{all}
-use Rattle.lists.specs.Member.{Either, left, right}
 use Rattle.lists.proofs.Logic.{cases, either, clash}
 use Rattle.central.specs.Mark.{Mark, idle, running, offered, committed, failed, turned-down, markNumber, isMark, markOf}
 use Rattle.central.specs.Central.{Central, marked}
@@ -52,11 +52,11 @@ worked-said x failed = rw and-false
 worked-said x turned-down = refl
 
 -- a node that has ended and not failed
-pub ended-well : (s : Central) (v : ℕ) → ended s v ≡ true → marked s failed v ≡ false → Either (s .mark v ≡ committed) (s .mark v ≡ turned-down)
+pub ended-well : (s : Central) (v : ℕ) → ended s v ≡ true → marked s failed v ≡ false → (s .mark v ≡ committed) ⊎ (s .mark v ≡ turned-down)
 unfolding ended
 ended-well s v h n = cases ((either (marked s committed v || marked s failed v) (marked s turned-down v)) .0 h)
-    (λ e. cases ((either (marked s committed v) (marked s failed v)) .0 e) (λ c. left (mark-is committed (s .mark v) c)) (λ f. clash _ f n))
-    (λ d. right (mark-is turned-down (s .mark v) d))
+    (λ e. cases ((either (marked s committed v) (marked s failed v)) .0 e) (λ c. inl (mark-is committed (s .mark v) c)) (λ f. clash _ f n))
+    (λ d. inr (mark-is turned-down (s .mark v) d))
 
 -- the outcome of a node by its mark at the end
 unfoldable pub outcomeOf : Mark → Outcome

@@ -3,6 +3,7 @@
 use mathlib.Core.Path.{_≡_, refl, sym, _∙_, ap}
 use mathlib.Core.Bool.{Bool, true, false, not, cond}
 use mathlib.Core.List.{List, [], _∷_}
+use mathlib.Core.Logic.{_⊎_}
 use Prim.Native.Nat.{ℕ, zero, suc, _+_, _≤_, _<_}
 use lib.Dec.{eqb}
 use lib.ListN.{getD, getD-replicate, length, length-replicate, length-set, replicate, set}
@@ -10,7 +11,7 @@ use lib.Seq.{getD-set-other, getD-set-same}
 use borrow.Author.Tests.{eqb-false, eqb-true}
 use native.Mathlib.Omega.{arith}
 use Rattle.lists.specs.Seq.{all, any, table}
-use Rattle.lists.specs.Member.{Either, In}
+use Rattle.lists.specs.Member.{In}
 use Rattle.lists.proofs.Logic.{cases, no-bool, parts, clash, decided}
 use Rattle.lists.proofs.Members.{all-at, any-at}
 use Rattle.lists.proofs.Table.{table-by}
@@ -57,7 +58,7 @@ module _ (p : List ℕ) (ok : Accepted p) (s : Central) (good : Good p s) (stuck
   unfolding said saidBy
   failed-answer k h = agree .task-fails v k h
 
-  well : marked s failed v ≡ false → Either (s .mark v ≡ committed) (s .mark v ≡ turned-down)
+  well : marked s failed v ≡ false → (s .mark v ≡ committed) ⊎ (s .mark v ≡ turned-down)
   well e = ended-well s v (all-ended p ok s good stuck v small st) e
 
   well-worked : marked s failed v ≡ false → isWorked (s .mark v) ≡ true

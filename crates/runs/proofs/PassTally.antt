@@ -3,6 +3,7 @@
 use mathlib.Core.Path.{_≡_, refl, sym, _∙_, subst}
 use mathlib.Core.Bool.{Bool, true, false, _||_, or-false, or-true}
 use mathlib.Core.List.{List, [], _∷_, _++_}
+use mathlib.Core.Logic.{_⊎_, inl, inr}
 use Prim.Native.Nat.{ℕ, zero, suc, _<_}
 use lib.Dec.{eqb}
 use lib.ListN.{getD, length, length-append, length-set, set}
@@ -10,7 +11,7 @@ use lib.Seq.{getD-set-other, getD-set-same}
 use borrow.Author.Tests.{eqb-false, eqb-true, not-false}
 use native.Mathlib.Omega.{arith}
 use Rattle.lists.specs.Seq.{any}
-use Rattle.lists.specs.Member.{Either, left, right, In}
+use Rattle.lists.specs.Member.{In}
 use Rattle.lists.proofs.Logic.{cases, clash, decided}
 use Rattle.lists.proofs.Points.{in-snoc, any-snoc}
 use Rattle.plan.specs.Plan.{xor, size, kind, parent, children}
@@ -27,11 +28,11 @@ use Rattle.runs.proofs.Facts.{child-placed}
 
 -- marks m became marks n: each stays, or is the one of s
 abbrev pub Kept : Central → List ℕ → List ℕ → Type 0
-Kept s m n = (w : ℕ) → Either (getD n w 0 ≡ getD m w 0) (getD n w 0 ≡ markNumber (s .mark w))
+Kept s m n = (w : ℕ) → (getD n w 0 ≡ getD m w 0) ⊎ (getD n w 0 ≡ markNumber (s .mark w))
 
 -- every started node that is c or below c has its mark
 abbrev pub Wrote : List ℕ → Central → ℕ → List ℕ → Type 0
-Wrote p s c n = (w : ℕ) → w < size p → started s w ≡ true → Either (c ≡ w) (Below p c w) → getD n w 0 ≡ markNumber (s .mark w)
+Wrote p s c n = (w : ℕ) → w < size p → started s w ≡ true → (c ≡ w) ⊎ (Below p c w) → getD n w 0 ≡ markNumber (s .mark w)
 
 -- settling v by marks m gave r
 pub record Settles (p : List ℕ) (s : Central) (v : ℕ) (m : List ℕ) (r : Settled) : Type 0 where
@@ -74,12 +75,12 @@ module _ (p : List ℕ) (ok : Accepted p) (s : Central) (good : Good p s) where
       below-started v (parent p w) (omega arith) (child-placed p s good (parent p w) w (parent-child p ok w h l) e .0) b
 
   -- from v down to w goes through a child of v
-  pub through : (v w : ℕ) → w < size p → Below p v w → (d : ℕ) × In d (children p v) × Either (d ≡ w) (Below p d w)
-  through v w l (child h q) = (w, child-in p v (record { low = h; high = l; of = q }), left refl)
+  pub through : (v w : ℕ) → w < size p → Below p v w → (d : ℕ) × In d (children p v) × ((d ≡ w) ⊎ (Below p d w))
+  through v w l (child h q) = (w, child-in p v (record { low = h; high = l; of = q }), inl refl)
   through v w l (deeper h b) =
       let lt = ok .below w h l in
       let r = through v (parent p w) (omega arith) b in
-      (r .0, r .1, right (cases (r .2) (λ x. child h (sym x)) (λ x. deeper h x)))
+      (r .0, r .1, inr (cases (r .2) (λ x. child h (sym x)) (λ x. deeper h x)))
 
   pub below-root : (n w : ℕ) → w < n → 0 < w → w < size p → Below p 0 w
   below-root zero w l h k = absurd (omega arith)
@@ -97,7 +98,7 @@ module _ (p : List ℕ) (ok : Accepted p) (s : Central) (good : Good p s) where
     broke = refl;
     chosen = λ k. refl;
     long = l;
-    kept = λ w. left refl;
+    kept = λ w. inl refl;
     wrote = λ d i. absurd (none i);
   }
     where
@@ -118,10 +119,10 @@ module _ (p : List ℕ) (ok : Accepted p) (s : Central) (good : Good p s) where
           chosen = λ k. flag-same (marked s committed) ds c _ (i .chosen k) (rw q);
           long = i .long;
           kept = i .kept;
-          wrote = λ d j w l st b. cases (in-snoc ds j) (λ h. i .wrote d h w l st b) (λ h. absurd (dead w l st (subst (λ z. Either (z ≡ w) (Below p z w)) h b)));
+          wrote = λ d j w l st b. cases (in-snoc ds j) (λ h. i .wrote d h w l st b) (λ h. absurd (dead w l st (subst (λ z. (z ≡ w) ⊎ (Below p z w)) h b)));
         }
       where
-        dead : (w : ℕ) → w < size p → started s w ≡ true → Either (c ≡ w) (Below p c w) → ⊥
+        dead : (w : ℕ) → w < size p → started s w ≡ true → (c ≡ w) ⊎ (Below p c w) → ⊥
         dead w l st b = cases b (λ q. clash _ st (subst (λ z. started s z ≡ false) q e)) (λ q. clash _ (below-started c w l st q) e)
 
     -- c was settled, which gave r, and got the mark x
@@ -134,15 +135,15 @@ module _ (p : List ℕ) (ok : Accepted p) (s : Central) (good : Good p s) where
           (λ q. getD-set-other (r .marks) c w x 0 (eqb-false w c q) ∙ k)
 
       set-kept : Kept s m (set (r .marks) c x)
-      set-kept w = cases (decided (eqb w c)) (λ q. right (rw (eqb-true w c q) set-here))
+      set-kept w = cases (decided (eqb w c)) (λ q. inr (rw (eqb-true w c q) set-here))
           (λ q. cases (y .kept w)
-          (λ j. cases (i .kept w) (λ k. left (getD-set-other (r .marks) c w x 0 (eqb-false w c q) ∙ j ∙ k)) (λ k. right (set-keeps w (j ∙ k))))
-          (λ j. right (set-keeps w j)))
+          (λ j. cases (i .kept w) (λ k. inl (getD-set-other (r .marks) c w x 0 (eqb-false w c q) ∙ j ∙ k)) (λ k. inr (set-keeps w (j ∙ k))))
+          (λ j. inr (set-keeps w j)))
 
       set-wrote : (d : ℕ) → In d (ds ++ (c ∷ [])) → Wrote p s d (set (r .marks) c x)
       set-wrote d j w l st b = cases (in-snoc ds j)
           (λ h. set-keeps w (cases (y .kept w) (λ k. k ∙ i .wrote d h w l st b) (λ k. k)))
-          (λ h. cases (subst (λ z. Either (z ≡ w) (Below p z w)) h b)
+          (λ h. cases (subst (λ z. (z ≡ w) ⊎ (Below p z w)) h b)
           (λ q. subst (λ z. getD (set (r .marks) c x) z 0 ≡ markNumber (s .mark z)) q set-here)
           (λ q. set-keeps w (y .wrote w l st q)))
 
@@ -162,7 +163,7 @@ module _ (p : List ℕ) (ok : Accepted p) (s : Central) (good : Good p s) where
         wrote = set-wrote;
       }
 
-      pub tally-works : (a : ℕ) → Either (s .mark c ≡ committed) (s .mark c ≡ turned-down) →
+      pub tally-works : (a : ℕ) → (s .mark c ≡ committed) ⊎ (s .mark c ≡ turned-down) →
           (kind p v ≡ xor → eqb (suc (length ds)) a ≡ marked s committed c) → Next (note a (t .tally) works)
       unfolding note isWorked isMark markNumber
       tally-works a q place = record {

@@ -2,11 +2,12 @@
 use mathlib.Core.Path.{_≡_, refl, _∙_, subst}
 use mathlib.Core.Bool.{Bool, true, false, _&&_, _||_}
 use mathlib.Core.List.{List, [], _∷_, _++_, map, append-assoc, append-nil}
+use mathlib.Core.Logic.{_⊎_, inl, inr}
 use Prim.Native.Nat.{ℕ, zero, suc, _+_, _*_, _≤_}
 use lib.ListN.{length, length-append}
 use native.Mathlib.Omega.{arith}
 use Rattle.lists.specs.Seq.{any, upFrom}
-use Rattle.lists.specs.Member.{Either, left, right, In, here, there}
+use Rattle.lists.specs.Member.{In, here, there}
 use Rattle.lists.proofs.Logic.{cases, no-bool, clash, decided}
 use Rattle.lists.proofs.Members.{any-by, any-at, in-up}
 use Rattle.lists.proofs.Points.{in-left, in-right, any-snoc, map-in}
@@ -51,10 +52,10 @@ event-in e (here {y = v} {xs = vs} q) =
     in-left (nodeEvents vs) (subst (λ (w : ℕ). In e (map (λ c. at c w) codes)) q (map-in (λ c. at c (e .node)) (in-codes (e .code))))
 event-in e (there {y = v} {xs = vs} i) = in-right (map (λ c. at c v) codes) (event-in e i)
 
-next-event : (p : List ℕ) (s : Central) → Either ((e : Event) × (allowed p s e ≡ true)) (Stuck p s)
+next-event : (p : List ℕ) (s : Central) → ((e : Event) × (allowed p s e ≡ true)) ⊎ (Stuck p s)
 next-event p s = cases (decided (any (allowed p s) (nodeEvents (upFrom 0 (size p)))))
-    (λ h. let r = any-at (allowed p s) (nodeEvents (upFrom 0 (size p))) h in left (r .0, r .2))
-    (λ h. right (λ e. no-bool (allowed p s e) (λ k.
+    (λ h. let r = any-at (allowed p s) (nodeEvents (upFrom 0 (size p))) h in inl (r .0, r .2))
+    (λ h. inr (λ e. no-bool (allowed p s e) (λ k.
     clash _ (any-by (allowed p s) (event-in e (in-up 0 (size p) (e .node) (omega arith) (allowed-node p s e k))) k) h)))
 
 module _ (p : List ℕ) where

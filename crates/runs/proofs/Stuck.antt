@@ -3,13 +3,14 @@
 use mathlib.Core.Path.{_≡_, refl}
 use mathlib.Core.Bool.{true, false, not, _&&_}
 use mathlib.Core.List.{List, [], _∷_}
+use mathlib.Core.Logic.{_⊎_, inl, inr}
 use Prim.Native.Nat.{ℕ, _<_}
 use lib.Dec.{eqb}
 use lib.ListN.{length}
 use borrow.Author.Tests.{lt-ltb, ne-eqb}
 use native.Mathlib.Omega.{arith}
 use Rattle.lists.specs.Seq.{any}
-use Rattle.lists.specs.Member.{Either, left, right, In, here, there, Rising, end, next}
+use Rattle.lists.specs.Member.{In, here, there, Rising, end, next}
 use Rattle.lists.proofs.Logic.{cases, clash, decided}
 use Rattle.lists.proofs.Members.{any-by, any-at, in-keep}
 use Rattle.plan.specs.Plan.{conditional, kindNumber, isKind, size, kind, parent, children, others, inXor}
@@ -75,11 +76,11 @@ module _ (p : List ℕ) (ok : Accepted p) (s : Central) (stuck : Stuck p s) wher
         shut down v l x (rw o (any-by (s .picked) (in-keep (λ c. not (eqb c v)) (r .1) (rw other)) (r .2))))
         (λ y. shut pick v l x (rw (o, y))))
 
-    pub is-answered : kind p v ≡ conditional → started s v ≡ true → Either (s .answer v ≡ said-yes) (s .answer v ≡ said-no)
+    pub is-answered : kind p v ≡ conditional → started s v ≡ true → (s .answer v ≡ said-yes) ⊎ (s .answer v ≡ said-no)
     unfolding allowedBy appliesBy isKind kindNumber isYes isNo
     is-answered k st = go (s .answer v) (shut answered-yes v l (rw k))
       where
-        go : (x : Answer) → ((started s v && not (isYes x) && not (isNo x)) ≡ true → ⊥) → Either (x ≡ said-yes) (x ≡ said-no)
+        go : (x : Answer) → ((started s v && not (isYes x) && not (isNo x)) ≡ true → ⊥) → (x ≡ said-yes) ⊎ (x ≡ said-no)
         go none h = absurd (h (rw st))
-        go said-yes h = left refl
-        go said-no h = right refl
+        go said-yes h = inl refl
+        go said-no h = inr refl

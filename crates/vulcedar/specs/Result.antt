@@ -5,9 +5,8 @@ use Rattle.writer.specs.declared.Written.{Written}
 use Rattle.writer.specs.Written.{writtenNumber, writtenLength}
 use Rattle.site.specs.Verdict.{verdictNumber, verdictSite, verdictRule}
 use Rattle.site.specs.declared.Verdict.{Verdict}
-use Rattle.central.specs.Rule.{rulingNumber}
+use Rattle.central.specs.Rule.{rulingNumber, rulingValue}
 use Rattle.central.specs.declared.Ruling.{Ruling}
-use Rattle.central.specs.declared.Ruling.the-variants as ruling
 
 -- K1: the number in bits 0 to 7, the event's site in bits 8 to 15, a value in bits 16 to 31
 abbrev pub result : ℕ → ℕ → ℕ → ℕ
@@ -25,11 +24,6 @@ ofNamed r = result (r .number) 0 (r .rule)
 unfoldable pub ofVerdict : Verdict → ℕ
 ofVerdict v = result (verdictNumber v) (verdictSite v) (verdictRule v)
 
--- K2: allowed is the value 1
-unfoldable pub rulingValue : Ruling → ℕ
-rulingValue ruling.Allowed = 1
-rulingValue ruling.Forbidden = 0
-rulingValue (ruling.Refused n) = 0
-
+-- K2: whether the event is allowed is the value
 unfoldable pub ofRuling : Ruling → ℕ
 ofRuling r = result (rulingNumber r) 0 (rulingValue r)

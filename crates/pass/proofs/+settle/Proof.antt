@@ -1,12 +1,10 @@
 -- What is left of the node's children says what all of them say; the call of itself is on a higher node. Assumes nothing.
-use mathlib.Core.Path.{_≡_, refl, sym, _∙_}
+use mathlib.Core.Path.{_≡_, sym, _∙_}
 use mathlib.Core.Logic.{⊎-elim}
-use mathlib.Core.List.{List}
 use Prim.Native.Nat.{ℕ, _*_, _-_, _<_}
 use native.Mathlib.Omega.{arith}
-use lib.ListN.{length, getD}
-use Rattle.plan.specs.Plan.{size, kindByte}
-use Rattle.pass.specs.Values.{Settles}
+use lib.ListN.{getD}
+use Rattle.plan.specs.Plan.{size}
 use Rattle.pass.proofs.SettleLaws.{Begun, begun, settle-refused, task-ends}
 use Rattle.pass.proofs.WalkLaws.{first-small, begin-first, begin-second, Walking, Turn, left, walk-long, turn-long, walk-ends, turn-bounds, turn-ready, turn-less, turn-fault, turn-done, turn-on}
 use borrow.Fn.Kinds.{In}
@@ -37,6 +35,8 @@ below t = and 5 kinds.ps (falls 5 kinds.ps _<_ below-node t) settle.Pre
 
 abbrev callees : ℕ → lts.Claims
 callees t = (
+  task-end-reads.Asked,
+  task-end-reads.Learnt,
   bad-answer-reads.Asked,
   bad-answer-reads.Learnt,
   at-first-reads.Asked,
@@ -45,8 +45,6 @@ callees t = (
   wide-reads.Learnt,
   says-no-reads.Asked,
   says-no-reads.Learnt,
-  task-end-reads.Asked,
-  task-end-reads.Learnt,
   below t,
   settle.Post,
   child-mark-reads.Asked,
@@ -70,31 +68,16 @@ abbrev μ : lts.MeasureT-loop
 
 -- the block, once its answer is right
 block : (t : ℕ) (c : lts.After-says-no (callees t) (here t) settle.Post Inv μ) →
-    Begun (c .before .before .before .before .before .before .before .before .before .before .before .args .plan .now) (c .before .before .before .before .before .before .before .before .before .before .before .args .answers .now) (c .before .before .before .before .before .before .before .before .before .before .before .args .first .now) (c .before .before .before .before .before .before .before .before .before .before .before .args .next .now) (c .before .before .before .before .before .before .before .before .before .before .before .args .marks .now) (c .before .before .before .before .before .before .before .before .before .before .before .args .node)
-    (getD (c .before .before .before .before .before .before .before .before .before .before .before .args .plan .now) (2 * c .before .before .before .before .before .before .before .before .before .before .before .args .node) 0) (getD (c .before .before .before .before .before .before .before .before .before .before .before .args .answers .now) (c .before .before .before .before .before .before .before .before .before .before .before .args .node) 0)
+    Begun (c .before .before .before .before .before .before .before .before .before .before .before .before .args .plan .now) (c .before .before .before .before .before .before .before .before .before .before .before .before .args .answers .now) (c .before .before .before .before .before .before .before .before .before .before .before .before .args .first .now) (c .before .before .before .before .before .before .before .before .before .before .before .before .args .next .now) (c .before .before .before .before .before .before .before .before .before .before .before .before .args .marks .now) (c .before .before .before .before .before .before .before .before .before .before .before .before .args .node)
+    (getD (c .before .before .before .before .before .before .before .before .before .before .before .before .args .plan .now) (2 * c .before .before .before .before .before .before .before .before .before .before .before .before .args .node) 0) (getD (c .before .before .before .before .before .before .before .before .before .before .before .before .args .answers .now) (c .before .before .before .before .before .before .before .before .before .before .before .before .args .node) 0)
 block t c =
-    let r = c .before .before .before .before .before .before .before .before .before .before .before .pre .1 in
-    begun (r .0) _ (c .before .before .before .before .before .bad-answer .ensures) (r .1) _ _ (r .2) (c .before .before .before .before .if1 .left)
+    let r = c .before .before .before .before .before .before .before .before .before .before .before .before .pre .1 in
+    begun (r .0) _ (c .before .before .before .before .before .bad-answer .ensures) (c .before .before .before .before .before .before .if1 .left) _ _ (r .1) (c .before .before .before .before .if2 .left)
 
 -- a turn's bounds
 turn : (t : ℕ) (c : lts.In-loop (callees t) (here t) settle.Post Inv μ) →
-    Turn (c .before .before .before .before .before .before .before .before .before .before .before .before .before .before .args .plan .now) (c .before .before .before .before .before .before .before .before .before .before .before .before .before .before .args .answers .now) (c .before .before .before .before .before .before .before .before .before .before .before .before .before .before .args .node) (c .before .loop .marks) (c .before .loop .places) (c .before .loop .c)
+    Turn (c .before .before .before .before .before .before .before .before .before .before .before .before .before .before .before .args .plan .now) (c .before .before .before .before .before .before .before .before .before .before .before .before .before .before .before .args .answers .now) (c .before .before .before .before .before .before .before .before .before .before .before .before .before .before .before .args .node) (c .before .loop .marks) (c .before .loop .places) (c .before .loop .c)
 turn t c = turn-bounds (c .before .loop .inv) (c .loop-test .taken)
-
--- where the branches meet
-end-as : {p a m m′ m″ : List ℕ} {c o o′ : ℕ} → m″ ≡ m′ → o′ ≡ o → Settles p a m c m′ o × (length m′ ≡ length m) → Settles p a m c m″ o′ × (length m″ ≡ length m)
-end-as e f h = rw (e, f) h
-
--- how the child ended, by its answer or by a call
-child : (t : ℕ) (c : lts.Joined3 (callees t) (here t) settle.Post Inv μ) →
-    Settles (c .before .before .before .before .before .before .before .before .before .before .before .before .before .before .before .before .before .args .plan .now) (c .before .before .before .before .before .before .before .before .before .before .before .before .before .before .before .before .before .args .answers .now) (c .before .before .before .before .loop .marks) (c .before .before .before .before .loop .c) (c .if3 .marks) (c .if3 .o) × (length (c .if3 .marks) ≡ length (c .before .before .before .before .loop .marks))
-child t c =
-    let i = c .before .before .before .before .loop .inv in
-    let l = c .before .before .before .loop-test .taken in
-    ⊎-elim
-    (λ w. end-as (w .3) (w .4) (task-ends (turn-ready i l) (w .0 .taken) _ (w .2 .ensures), refl))
-    (λ w. end-as (w .5) (w .6) (w .2 .ensures, w .2 .kept .1 .1 .1 .1 .0))
-    (c .if3 .came)
 
 mul-kind : (t : ℕ) → lts.Need-mul-kind (callees t) (here t) settle.Post Inv μ
 mul-kind t c = let r = c .before .before .before .pre .1 .0 in omega (arith, r .node, r .accepted .few)
@@ -105,17 +88,23 @@ shared-slice-read-kind t c = let r = c .before .before .before .before .pre .1 .
 shared-slice-read-answer : (t : ℕ) → lts.Need-shared-slice-read-answer (callees t) (here t) settle.Post Inv μ
 shared-slice-read-answer t c = let r = c .before .before .before .before .before .pre .1 .0 in omega (arith, r .node, r .answers)
 
+task-end-requires : (t : ℕ) → lts.Need-task-end-requires (callees t) (here t) settle.Post Inv μ
+task-end-requires t c κs = tt
+
+returns : (t : ℕ) → lts.Need-returns (callees t) (here t) settle.Post Inv μ
+returns t c = task-ends (c .before .before .before .before .before .before .before .pre .1 .0) (c .before .if1 .taken) _ (c .task-end .ensures)
+
 bad-answer-requires : (t : ℕ) → lts.Need-bad-answer-requires (callees t) (here t) settle.Post Inv μ
 bad-answer-requires t c κs = tt
 
-returns : (t : ℕ) → lts.Need-returns (callees t) (here t) settle.Post Inv μ
-returns t c = settle-refused (c .before .before .before .before .before .before .before .pre .1 .0) _ (c .before .bad-answer .ensures) (c .if1 .taken)
+returns-2 : (t : ℕ) → lts.Need-returns-2 (callees t) (here t) settle.Post Inv μ
+returns-2 t c = settle-refused (c .before .before .before .before .before .before .before .before .pre .1 .0) _ (c .before .bad-answer .ensures) (c .if2 .taken)
 
 at-first-requires : (t : ℕ) → lts.Need-at-first-requires (callees t) (here t) settle.Post Inv μ
 at-first-requires t c κs = tt
 
 element-copy-out-wide : (t : ℕ) → lts.Need-element-copy-out-wide (callees t) (here t) settle.Post Inv μ
-element-copy-out-wide t c = let r = c .before .before .before .before .before .before .before .before .pre .1 .0 in omega (arith, r .node, r .accepted .few)
+element-copy-out-wide t c = let r = c .before .before .before .before .before .before .before .before .before .pre .1 .0 in omega (arith, r .node, r .accepted .few)
 
 wide-requires : (t : ℕ) → lts.Need-wide-requires (callees t) (here t) settle.Post Inv μ
 wide-requires t c κs = tt
@@ -137,39 +126,26 @@ loop-holds t c =
     ⊎-elim
     (λ w. begin-second k (sym (c .before .says-no .ensures) ∙ w .0 .taken) _ _ _ e f (w .3 ∙ w .2 .ensures))
     (λ w. rw (w .1) (begin-first k (sym (c .before .says-no .ensures) ∙ w .0 .left) _ _ e f))
-    (c .if2 .came)
-
-mul-if3 : (t : ℕ) → lts.Need-mul-if3 (callees t) (here t) settle.Post Inv μ
-mul-if3 t c = omega (arith, turn t (c .before) .small)
-
-shared-slice-read-if3 : (t : ℕ) → lts.Need-shared-slice-read-if3 (callees t) (here t) settle.Post Inv μ
-shared-slice-read-if3 t c = omega (arith, turn t (c .before .before) .index)
-
-shared-slice-read-task-end : (t : ℕ) → lts.Need-shared-slice-read-task-end (callees t) (here t) settle.Post Inv μ
-shared-slice-read-task-end t c = omega (arith, turn t (c .before .before .before .before) .answered)
-
-task-end-requires : (t : ℕ) → lts.Need-task-end-requires (callees t) (here t) settle.Post Inv μ
-task-end-requires t c κs = tt
+    (c .if3 .came)
 
 settle-requires : (t : ℕ) → lts.Need-settle-requires (callees t) (here t) settle.Post Inv μ
-unfolding kindByte
 settle-requires t c κs =
-    let above = c .before .before .before .before .before .before .before .before .before .before .before .before .before .before .before .before .before .before .pre in
-    (below-at (above .0) (turn t (c .before .before .before .before) .falls), (turn-ready (c .before .before .before .before .before .loop .inv) (c .before .before .before .before .loop-test .taken), c .before .if3 .left, above .1 .2))
+    let above = c .before .before .before .before .before .before .before .before .before .before .before .before .before .before .before .before .pre in
+    (below-at (above .0) (turn t (c .before) .falls), (turn-ready (c .before .before .loop .inv) (c .before .loop-test .taken), above .1 .1))
 
 child-mark-requires : (t : ℕ) → lts.Need-child-mark-requires (callees t) (here t) settle.Post Inv μ
-child-mark-requires t c κs = turn t (c .before .before .before) .few
+child-mark-requires t c κs = turn t (c .before .before .before .before) .few
 
 slice-write-marks : (t : ℕ) → lts.Need-slice-write-marks (callees t) (here t) settle.Post Inv μ
-slice-write-marks t c = omega (arith, turn t (c .before .before .before .before) .written, child t (c .before) .1)
+slice-write-marks t c = omega (arith, turn t (c .before .before .before .before .before) .written, c .before .before .before .settle .kept .1 .1 .1 .1 .0)
 
 same-length : (t : ℕ) → lts.Need-same-length (callees t) (here t) settle.Post Inv μ
-same-length t c = turn-long (c .before .before .before .before .before .before .loop .inv) (c .before .before .if3 .marks) (c .before .child-mark .result) (child t (c .before .before) .1)
+same-length t c = turn-long (c .before .before .before .before .before .before .before .loop .inv) (c .before .before .before .before .settle .last .1 .1 .1 .1 .0) (c .before .child-mark .result) (c .before .before .before .before .settle .kept .1 .1 .1 .1 .0)
 
-returns-2 : (t : ℕ) → lts.Need-returns-2 (callees t) (here t) settle.Post Inv μ
-returns-2 t c =
-    let d = child t (c .before .before) in
-    turn-fault (c .before .before .before .before .before .before .loop .inv) (c .before .before .before .before .before .loop-test .taken) _ _ (d .1) (d .0) _ (c .before .child-mark .ensures)
+returns-3 : (t : ℕ) → lts.Need-returns-3 (callees t) (here t) settle.Post Inv μ
+returns-3 t c =
+    let d = c .before .before .before .before .settle in
+    turn-fault (c .before .before .before .before .before .before .before .loop .inv) (c .before .before .before .before .before .before .loop-test .taken) _ _ (d .kept .1 .1 .1 .1 .0) (d .ensures) _ (c .before .child-mark .ensures)
     (c .if4 .taken)
 
 comes-to-requires : (t : ℕ) → lts.Need-comes-to-requires (callees t) (here t) settle.Post Inv μ
@@ -182,31 +158,31 @@ ends-as-requires : (t : ℕ) → lts.Need-ends-as-requires (callees t) (here t) 
 ends-as-requires t c κs = tt
 
 same-length-2 : (t : ℕ) → lts.Need-same-length-2 (callees t) (here t) settle.Post Inv μ
-same-length-2 t c = turn-long (c .before .before .before .before .before .before .before .before .before .before .loop .inv) (c .before .before .before .before .before .before .if3 .marks) (c .before .before .before .before .before .child-mark .result) (child t (c .before .before .before .before .before .before) .1)
+same-length-2 t c = turn-long (c .before .before .before .before .before .before .before .before .before .before .before .loop .inv) (c .before .before .before .before .before .before .before .before .settle .last .1 .1 .1 .1 .0) (c .before .before .before .before .before .child-mark .result) (c .before .before .before .before .before .before .before .before .settle .kept .1 .1 .1 .1 .0)
 
-returns-3 : (t : ℕ) → lts.Need-returns-3 (callees t) (here t) settle.Post Inv μ
-returns-3 t c =
-    let d = child t (c .before .before .before .before .before .before) in
-    turn-done (c .before .before .before .before .before .before .before .before .before .before .loop .inv) (c .before .before .before .before .before .before .before .before .before .loop-test .taken) _ _ (d .1) (d .0) _ (c .before .before .before .before .before .child-mark .ensures)
-    (c .before .before .before .before .if4 .left) _ _ (c .before .before .before .before .before .before .before .before .before .before .before .before .before .before .before .at-first .ensures) (c .before .before .before .comes-to .ensures) _ (c .before .before .done .ensures) (c .before .if5 .taken) _ (c .ends-as .ensures)
+returns-4 : (t : ℕ) → lts.Need-returns-4 (callees t) (here t) settle.Post Inv μ
+returns-4 t c =
+    let d = c .before .before .before .before .before .before .before .before .settle in
+    turn-done (c .before .before .before .before .before .before .before .before .before .before .before .loop .inv) (c .before .before .before .before .before .before .before .before .before .before .loop-test .taken) _ _ (d .kept .1 .1 .1 .1 .0) (d .ensures) _ (c .before .before .before .before .before .child-mark .ensures)
+    (c .before .before .before .before .if4 .left) _ _ (c .before .before .before .before .before .before .before .before .before .before .before .before .before .before .before .before .at-first .ensures) (c .before .before .before .comes-to .ensures) _ (c .before .before .done .ensures) (c .before .if5 .taken) _ (c .ends-as .ensures)
 
 add-places : (t : ℕ) → lts.Need-add-places (callees t) (here t) settle.Post Inv μ
-add-places t c = omega (arith, turn t (c .before .before .before .before .before .before .before .before) .few)
+add-places t c = omega (arith, turn t (c .before .before .before .before .before .before .before .before .before) .few)
 
 element-copy-out-wide-3 : (t : ℕ) → lts.Need-element-copy-out-wide-3 (callees t) (here t) settle.Post Inv μ
-element-copy-out-wide-3 t c = turn t (c .before .before .before .before .before .before .before .before) .small
+element-copy-out-wide-3 t c = turn t (c .before .before .before .before .before .before .before .before .before) .small
 
 wide-requires-3 : (t : ℕ) → lts.Need-wide-requires-3 (callees t) (here t) settle.Post Inv μ
 wide-requires-3 t c κs = tt
 
 loop-less : (t : ℕ) → lts.Need-loop-less (callees t) (here t) settle.Post Inv μ
-loop-less t c = turn-less (c .before .before .before .before .before .before .before .before .before .before .before .loop .inv) (c .before .before .before .before .before .before .before .before .before .before .loop-test .taken) _ (c .wide3 .ensures)
+loop-less t c = turn-less (c .before .before .before .before .before .before .before .before .before .before .before .before .loop .inv) (c .before .before .before .before .before .before .before .before .before .before .before .loop-test .taken) _ (c .wide3 .ensures)
 
 loop-again : (t : ℕ) → lts.Need-loop-again (callees t) (here t) settle.Post Inv μ
 loop-again t c =
-    let d = child t (c .before .before .before .before .before .before .before) in
-    turn-on (c .before .before .before .before .before .before .before .before .before .before .before .loop .inv) (c .before .before .before .before .before .before .before .before .before .before .loop-test .taken) _ _ (d .1) (d .0) _ (c .before .before .before .before .before .before .child-mark .ensures)
-    (c .before .before .before .before .before .if4 .left) _ _ (c .before .before .before .before .before .before .before .before .before .before .before .before .before .before .before .before .at-first .ensures) (c .before .before .before .before .comes-to .ensures) _ (c .before .before .before .done .ensures) (c .before .before .if5 .left) _ (c .wide3 .ensures)
+    let d = c .before .before .before .before .before .before .before .before .before .settle in
+    turn-on (c .before .before .before .before .before .before .before .before .before .before .before .before .loop .inv) (c .before .before .before .before .before .before .before .before .before .before .before .loop-test .taken) _ _ (d .kept .1 .1 .1 .1 .0) (d .ensures) _ (c .before .before .before .before .before .before .child-mark .ensures)
+    (c .before .before .before .before .before .if4 .left) _ _ (c .before .before .before .before .before .before .before .before .before .before .before .before .before .before .before .before .before .at-first .ensures) (c .before .before .before .before .comes-to .ensures) _ (c .before .before .before .done .ensures) (c .before .before .if5 .left) _ (c .wide3 .ensures)
 
 ends-as-requires-2 : (t : ℕ) → lts.Need-ends-as-requires-2 (callees t) (here t) settle.Post Inv μ
 ends-as-requires-2 t c κs = tt
@@ -214,8 +190,8 @@ ends-as-requires-2 t c κs = tt
 same-length-3 : (t : ℕ) → lts.Need-same-length-3 (callees t) (here t) settle.Post Inv μ
 same-length-3 t c = walk-long (c .before .before .loop .inv)
 
-returns-4 : (t : ℕ) → lts.Need-returns-4 (callees t) (here t) settle.Post Inv μ
-returns-4 t c = walk-ends (c .before .before .loop .inv) (c .before .loop-test .left) _ (c .ends-as2 .ensures)
+returns-5 : (t : ℕ) → lts.Need-returns-5 (callees t) (here t) settle.Post Inv μ
+returns-5 t c = walk-ends (c .before .before .loop .inv) (c .before .loop-test .left) _ (c .ends-as2 .ensures)
 
 pub +settle-spec : {M : Type 1} → statement M
 +settle-spec = close below-node λ t. lts.spec (callees t)
@@ -226,8 +202,10 @@ pub +settle-spec : {M : Type 1} → statement M
     (mul-kind t)
     (shared-slice-read-kind t)
     (shared-slice-read-answer t)
-    (bad-answer-requires t)
+    (task-end-requires t)
     (returns t)
+    (bad-answer-requires t)
+    (returns-2 t)
     (at-first-requires t)
     (element-copy-out-wide t)
     (wide-requires t)
@@ -235,20 +213,16 @@ pub +settle-spec : {M : Type 1} → statement M
     (element-copy-out-wide-2 t)
     (wide-requires-2 t)
     (loop-holds t)
-    (mul-if3 t)
-    (shared-slice-read-if3 t)
-    (shared-slice-read-task-end t)
-    (task-end-requires t)
     (settle-requires t)
     (child-mark-requires t)
     (slice-write-marks t)
     (same-length t)
-    (returns-2 t)
+    (returns-3 t)
     (comes-to-requires t)
     (done-requires t)
     (ends-as-requires t)
     (same-length-2 t)
-    (returns-3 t)
+    (returns-4 t)
     (add-places t)
     (element-copy-out-wide-3 t)
     (wide-requires-3 t)
@@ -256,4 +230,4 @@ pub +settle-spec : {M : Type 1} → statement M
     (loop-again t)
     (ends-as-requires-2 t)
     (same-length-3 t)
-    (returns-4 t)
+    (returns-5 t)
