@@ -3,4 +3,5 @@ pub mod Guard
 pub mod Rule
 pub mod Bytes
 pub mod Put
-pub mod Row
+pub mod Family
+pub mod Shape
