@@ -1,4 +1,4 @@
--- Laws of the nodes that a guard speaks of: the first, the last, the one before, and how they are gathered. Assumes nothing.
+-- Laws of a family: the first, the last, the one before, and how it is gathered. Assumes nothing.
 use mathlib.Core.Path.{_≡_, refl, sym, ap, _∙_}
 use mathlib.Core.Bool.{Bool, true, false, not, and-true, and-false}
 use mathlib.Core.List.{List, [], _∷_}

@@ -1,4 +1,5 @@
--- Laws of whom a guard speaks: whose children they are, when it speaks of any, and that the guard is its row of them. Assumes nothing.
+-- Laws of the nodes that a guard names: whose children they are, when it names any, and that its shape over them gives the guard. Assumes
+-- nothing.
 use mathlib.Core.Path.{_≡_, refl, sym, ap, _∙_}
 use mathlib.Core.Bool.{Bool, true, false, _&&_, _||_, not, and-false, false≢true}
 use mathlib.Core.Logic.{⊎-elim}
@@ -94,7 +95,7 @@ unfolding inTurn
 turn-byte k = cases (decided (leb k 8)) (λ e. turn-low k (leb-true k 8 e))
     (λ e. let l = leb-false k 8 e in rw (ne-eqb k 2 (λ q. omega arith), ne-eqb k 6 (λ q. omega arith), ne-eqb k 7 (λ q. omega arith), kind-other k (λ a b. omega arith)))
 
--- when the guard speaks of any, by the code's number
+-- when the guard names any, by the code's number
 module _ (code k a : ℕ) {b : Bool} where
   pub names-start : code ≡ 1 → b ≡ inTurn (kindOf a) → b ≡ namesFamily (codeOf code) (kindOf k) (kindOf a)
   unfolding codeOf namesFamily
@@ -125,19 +126,19 @@ module _ (code k a : ℕ) where
   unfolding namesFamily
   names-down h = rw (code-down code h)
 
--- the guard is its row
-guard-row : (p : List ℕ) (code : Code) (v : ℕ) → guardBy p code v ≡ guardByKinds code (kind p v) (above p v) (parent p v) v (family p (familyParent p code v) (leftOut code v))
+-- the guard by the kinds and the family
+guard-family : (p : List ℕ) (code : Code) (v : ℕ) → guardBy p code v ≡ guardByKinds code (kind p v) (above p v) (parent p v) v (family p (familyParent p code v) (leftOut code v))
 unfolding guardBy guardByKinds finishing aborting inXor familyParent leftOut
-guard-row p start v = rw (family-children p (parent p v))
-guard-row p offer v = rw (family-children p v)
-guard-row p commit v = rw (family-children p v)
-guard-row p abort v = rw (family-children p v)
-guard-row p answered-yes v = refl
-guard-row p answered-no v = refl
-guard-row p pick v = refl
-guard-row p down v = rw (family-others p v)
+guard-family p start v = rw (family-children p (parent p v))
+guard-family p offer v = rw (family-children p v)
+guard-family p commit v = rw (family-children p v)
+guard-family p abort v = rw (family-children p v)
+guard-family p answered-yes v = refl
+guard-family p answered-no v = refl
+guard-family p pick v = refl
+guard-family p down v = rw (family-others p v)
 
--- a guard that speaks of none is the same whoever they are
+-- a guard that names none is the same whichever they are
 start-alone : (k : Kind) (u : ℕ) (cs : List ℕ) (v : ℕ) → inTurn k ≡ false → startBy k u cs v ≡ startBy k u [] v
 unfolding inTurn startBy
 start-alone task u cs v h = refl
@@ -171,7 +172,7 @@ unnamed answered-no k a u v cs h = refl
 unnamed pick k a u v cs h = refl
 unnamed down k a u v cs h = absurd (false≢true (sym h))
 
--- the nodes of which it speaks
+-- the nodes that it names
 module _ (p : List ℕ) (code : Code) (v : ℕ) where
   pub named-family : namesFamily code (kind p v) (above p v) ≡ true → namedNodes p code v ≡ family p (familyParent p code v) (leftOut code v)
   unfolding namedNodes
@@ -183,8 +184,8 @@ module _ (p : List ℕ) (code : Code) (v : ℕ) where
 
   guard-by : guardBy p code v ≡ guardByKinds code (kind p v) (above p v) (parent p v) v (namedNodes p code v)
   guard-by = cases (decided (namesFamily code (kind p v) (above p v)))
-      (λ e. rw (named-family e) (guard-row p code v))
-      (λ e. rw (named-none e) (guard-row p code v ∙ unnamed code (kind p v) (above p v) (parent p v) v (family p (familyParent p code v) (leftOut code v)) e))
+      (λ e. rw (named-family e) (guard-family p code v))
+      (λ e. rw (named-none e) (guard-family p code v ∙ unnamed code (kind p v) (above p v) (parent p v) v (family p (familyParent p code v) (leftOut code v)) e))
 
 -- its shape gives the guard
 pub guard-shape : (p : List ℕ) (code v : ℕ) → GivesGuard (guardShape p (codeOf code) v) (namedNodes p (codeOf code) v) (guard p (eventOf code v))

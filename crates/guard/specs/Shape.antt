@@ -15,7 +15,8 @@ use Rattle.guard.specs.declared.table.Shape.{Shape}
 abbrev pub shape : ℕ → ℕ → ℕ → ℕ → Shape
 shape code node each any = record { code = code; node = node; each = each; any = any }
 
--- the shapes that occur
+-- C2 to C6: the shapes that occur: no clause; one event; for each the first n codes from c on, alone or with a last clause [d of any]; that
+-- clause alone; and one event with it
 abbrev pub noClause : Shape
 noClause = shape 0 0 0 0
 
@@ -89,7 +90,7 @@ shapeOf answered-no k above u v b = oneEvent start v
 shapeOf pick k above u v b = oneEvent offer v
 shapeOf down k above u v b = oneThenAny offer v pick
 
--- the shape of an event's guard in a plan
+-- C2 to C7: the shape of an event's guard in a plan
 unfoldable pub guardShape : List ℕ → Code → ℕ → Shape
 guardShape p c v = shapeOf c (kind p v) (above p v) (parent p v) v (neighbour c v (namedNodes p c v))
 

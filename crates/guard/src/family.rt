@@ -1,4 +1,4 @@
-// Whom the guard of an event speaks of: the children of the node, those of its parent, or nobody.
+// The nodes that the guard of an event names: the children of its node, those of the node's parent, or none.
 ghost use mathlib.Core.Path.{_≡_};
 ghost use mathlib.Core.Bool.{not};
 ghost use Rattle.plan.specs.Plan.{task, isKind, kindOf};
@@ -17,7 +17,7 @@ fn in_turn(k: u8) -> bool
     (k == 2) | (k == 6) | (k == 7)
 }
 
-// By the code, the node's kind and its parent's: the guard speaks of any children or siblings.
+// By the code, the node's kind and its parent's: the guard names any children or siblings.
 pub fn names_family(code: u8, k: u8, above: u8) -> bool
     ensures { λ r. ⌜ r ≡ namesFamily (codeOf code) (kindOf k) (kindOf above) ⌝ }
 {

@@ -4,7 +4,7 @@ ghost use Prim.Native.Nat.{_≤_};
 ghost use Rattle.event.specs.Event.{codeOf, eventOf};
 ghost use Rattle.guard.specs.Rule.{ruleKind, ruleByte};
 
-// The kind whose children or siblings the guard names.
+// The kind that the rule names, 0 for none.
 fn kind_named(plan: &[u8], code: u8, v: u8) -> u8
     requires { ⌜ (1 ≤ code) × (code ≤ 8) ⌝ }
     ensures { λ r. ⌜ r ≡ ruleKind (now (plan .entry)) (codeOf code) v ⌝ }

@@ -1,5 +1,5 @@
 -- A guard's shape on a row, part by part; the ways over the nodes that it names, a turn at a time; and a node's neighbour. Assumes nothing.
-use mathlib.Core.Path.{_≡_, refl, sym, ap, _∙_}
+use mathlib.Core.Path.{_≡_, refl, sym, _∙_}
 use mathlib.Core.Bool.{Bool, true, false, _&&_, _||_, not}
 use mathlib.Core.List.{List, [], _∷_}
 use Prim.Native.Nat.{ℕ, zero, suc, pred, _+_, _-_, _≤_, _<_}
@@ -99,7 +99,7 @@ module _ (row : List ℕ) (s : Shape) where
     unfolding familyHolds eachHolds anyHolds
     family-free h = let b = (both (eqb (s .each) 0) (eqb (s .any) 0)) .0 h in rw (b .0, b .1)
 
-    -- what is said of each fails, or the last clause decides
+    -- the clauses of each fail, or the last clause decides
     pub family-fails : eachHolds row s cs ≡ false → familyHolds row s cs ds ≡ false
     unfolding familyHolds
     family-fails e = rw e
@@ -113,7 +113,7 @@ module _ (row : List ℕ) (s : Shape) where
       unfolding familyHolds anyHolds
       family-any z = rw (e, ne-eqb (s .any) 0 z)
 
--- the nodes that the guard names are the family, and all the children where something is said of each
+-- the nodes that the guard names are the family, and all the children where each has a clause
 module _ (row p : List ℕ) (c : Code) (v : ℕ) {s : Shape} (is : s ≡ guardShape p c v) where
   each-children : eachHolds row s (children p (familyParent p c v)) ≡ eachHolds row s (family p (familyParent p c v) (leftOut c v))
   each-children = cases (decided (eqb (s .each) 0))

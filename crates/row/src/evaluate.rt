@@ -140,7 +140,7 @@ pub(crate) fn any_holds(plan: &[u8], u: u8, skip: u8, code: u8, row: &[u8]) -> b
     false
 }
 
-// What the shape says of each of u's children, and of any of them but one.
+// The clauses of each of u's children, and the clause of any of them but one.
 pub(crate) fn family_holds(plan: &[u8], u: u8, skip: u8, s: table::Shape, row: &[u8]) -> bool
     ensures { λ b. ⌜ b ≡ familyHolds (now (row .entry)) s (children (now (plan .entry)) u) (family (now (plan .entry)) u skip) ⌝ }
 {

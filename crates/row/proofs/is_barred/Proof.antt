@@ -1,4 +1,4 @@
--- One row of the table of bars for each arm. Assumes nothing.
+-- One line of the table of bars for each arm. Assumes nothing.
 use mathlib.Core.Path.{_≡_, refl, sym, _∙_}
 use mathlib.Core.Logic.{⊎-elim}
 use mathlib.Core.List.{[], _∷_}

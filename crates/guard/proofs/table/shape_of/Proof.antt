@@ -1,6 +1,5 @@
 -- Each arm is its line of the table. Assumes nothing.
-use mathlib.Core.Path.{refl, _∙_}
-use mathlib.Core.Logic.{⊎-elim}
+use mathlib.Core.Path.{_∙_}
 use native.Mathlib.Omega.{arith}
 use borrow.Author.Tests.{eq-eqb, ne-eqb}
 use Rattle.plan.specs.Plan.{xor, kindNumber, isKind, kindOf}
