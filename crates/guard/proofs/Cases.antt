@@ -20,7 +20,7 @@ tasks (suc n) = 0x01 ∷ 0x00 ∷ tasks n
 unfoldable pub xorOf : ℕ → List ℕ
 xorOf n = 0x05 ∷ 0xff ∷ tasks n
 
--- the bound of guard-short is met by the finish of an xor with 32 children
+-- the finish of an xor with 32 children reaches the bound of guard-short
 pub longest : length (encode (guard (xorOf 32) (at commit 0))) ≡ 290
 unfolding tasks xorOf encode encClauses encEvents guard guardBy finishBy finishing kindNumber isKind kindOf size kindByte kind parent childrenBelow children above
     inXor keep upFrom

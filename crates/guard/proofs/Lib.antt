@@ -1,10 +1,10 @@
 -- Laws that the proofs here and in upper crates cite.
 pub mod PutLaws
-pub mod Shapes
+pub mod EncodeLaws
 pub mod Short
 pub mod Between
-pub mod KinLaws
-pub mod WhomLaws
-pub mod RowLaws
+pub mod FamilyLaws
+pub mod NamedLaws
+pub mod ShapeLaws
 pub mod RuleLaws
 pub mod Cases

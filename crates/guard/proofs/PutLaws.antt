@@ -12,8 +12,8 @@ use lib.ListN.{length, length-append, set, take, drop, getD}
 use lib.Seq.{sets-eq, length-sets, take-at}
 use Rattle.lists.specs.Put.{Put}
 use Rattle.lists.proofs.PutLaws.{put-one, put-two, put-append, Left, left-none, left-put, drop-turn}
-use Rattle.guard.specs.Row.{rowBytes}
-use Rattle.guard.specs.declared.table.Row.{Row}
+use Rattle.guard.specs.Shape.{shapeBytes}
+use Rattle.guard.specs.declared.table.Shape.{Shape}
 use Rattle.guard.specs.Put.{pairs, anyPairs, clause, eachClause, anyClause, codesOf, firstBytes, anyPart, moreOf}
 
 -- the same bytes, under another name
@@ -125,7 +125,7 @@ module _ (k c : ℕ) (b : List ℕ) (at : ℕ) {n : ℕ} where
   unfolding clause pairs
   clause-three e = rw e (third-two k c b at)
 
--- the first bytes of a row, by what it has
+-- the first bytes of a shape, by what it has
 module _ (k v n more : ℕ) (cs : List ℕ) where
   pub first-none : k ≡ 0 → firstBytes k v n more cs ≡ more ∷ []
   unfolding firstBytes
@@ -152,16 +152,16 @@ pub more-some : (k : ℕ) → (k ≡ 0 → ⊥) → moreOf k ≡ 1
 unfolding moreOf
 more-some k h = rw (ne-eqb k 0 h)
 
--- a row: its first bytes, and behind them the last clause
-module _ (r : Row) (cs : List ℕ) {more : ℕ} (is : more ≡ moreOf (r .3)) where
-  pub row-length : length (rowBytes r cs) ≡ length (firstBytes (r .0) (r .1) (r .2) more cs) + length (anyPart (r .3) cs)
-  unfolding rowBytes
-  row-length = rw is (length-append (firstBytes (r .0) (r .1) (r .2) (moreOf (r .3)) cs) (anyPart (r .3) cs))
+-- a shape: its first bytes, and behind them the last clause
+module _ (s : Shape) (cs : List ℕ) {more : ℕ} (is : more ≡ moreOf (s .any)) where
+  pub shape-length : length (shapeBytes s cs) ≡ length (firstBytes (s .code) (s .node) (s .each) more cs) + length (anyPart (s .any) cs)
+  unfolding shapeBytes
+  shape-length = rw is (length-append (firstBytes (s .code) (s .node) (s .each) (moreOf (s .any)) cs) (anyPart (s .any) cs))
 
-  pub row-put : {b b₁ : List ℕ} {w₁ : ℕ} {b₂ : List ℕ} {w₂ : ℕ} → Put (firstBytes (r .0) (r .1) (r .2) more cs) b 0 b₁ w₁ → Put (anyPart (r .3) cs) b₁ w₁ b₂ w₂
-      → Put (rowBytes r cs) b 0 b₂ w₂
-  unfolding rowBytes
-  row-put h k = put-append (firstBytes (r .0) (r .1) (r .2) (moreOf (r .3)) cs) (anyPart (r .3) cs) _ _ (rw is at h) k
+  pub shape-put : {b b₁ : List ℕ} {w₁ : ℕ} {b₂ : List ℕ} {w₂ : ℕ} → Put (firstBytes (s .code) (s .node) (s .each) more cs) b 0 b₁ w₁ → Put (anyPart (s .any) cs) b₁ w₁ b₂ w₂
+      → Put (shapeBytes s cs) b 0 b₂ w₂
+  unfolding shapeBytes
+  shape-put h k = put-append (firstBytes (s .code) (s .node) (s .each) (moreOf (s .any)) cs) (anyPart (s .any) cs) _ _ (rw is at h) k
 
 -- what was written at the front of z is the part of s up to n
 module _ {x z s : List ℕ} {n : ℕ} (h : Put x z 0 s n) (l : length x ≤ length z) where

@@ -17,7 +17,7 @@ use Rattle.event.specs.Event.{Code, start, offer, commit, abort, answered-yes, 
 use Rattle.guard.specs.Guard.{Guard, one, each, anyOf, isFirst, beforeIn, startBy, finishBy, abortBy, finishing, aborting, guardBy, guard}
 use Rattle.guard.specs.Bytes.{encode}
 use Rattle.guard.specs.Put.{eachClause, anyClause}
-use Rattle.guard.proofs.Shapes.{encode-each, encode-each-any, each-short, any-length}
+use Rattle.guard.proofs.EncodeLaws.{encode-each, encode-each-any, each-short, any-length}
 
 -- a node that is not in the plan has no children
 pub few-children : (p : List ℕ) → Accepted p → (u : ℕ) → length (children p u) ≤ 32

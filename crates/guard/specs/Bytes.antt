@@ -5,7 +5,7 @@ use lib.ListN.{length}
 use Rattle.event.specs.Event.{Event, codeNumber}
 use Rattle.guard.specs.Guard.{Guard}
 
--- C8: the number of clauses; for each, its number of events, then each event's code and node
+-- C8: events as pairs of bytes; clauses, each behind the count of its events; a guard, behind the count of its clauses
 unfoldable pub encEvents : List Event → List ℕ
 encEvents [] = []
 encEvents (e ∷ es) = codeNumber (e .code) ∷ e .node ∷ encEvents es

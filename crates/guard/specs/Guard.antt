@@ -11,7 +11,7 @@ use Rattle.event.specs.Event.{Code, start, offer, commit, abort, answered-yes, 
 abbrev pub Guard : Type 0
 Guard = List (List Event)
 
--- the three shapes: one event; [codes] for each child; [code of any child]
+-- C2 to C6: the three forms of clauses: one event; one clause of these codes for each of cs; one clause with this code of all of cs
 abbrev pub one : Code → ℕ → Guard
 one c v = (at c v ∷ []) ∷ []
 
@@ -21,11 +21,12 @@ each ks cs = map (λ c. map (λ k. at k c) ks) cs
 abbrev pub anyOf : Code → List ℕ → Guard
 anyOf k cs = map (at k) cs ∷ []
 
--- the one before v in a rising list; d where v is the first
+-- C2: the one before v in a rising list; d where v is the first
 unfoldable pub beforeIn : ℕ → List ℕ → ℕ → ℕ
 beforeIn d [] v = d
 beforeIn d (c ∷ cs) v = cond (eqb c v) d (beforeIn c cs v)
 
+-- C2: v has no sibling before it
 unfoldable pub isFirst : List ℕ → ℕ → Bool
 isFirst cs v = eqb (headOr v cs) v
 
@@ -62,13 +63,14 @@ abortBy contingency v cs = one abort (lastOr v cs)
 abortBy conditional v cs = anyOf abort cs
 abortBy waiting v cs = each (commit ∷ abort ∷ []) cs ++ anyOf abort cs
 
+-- C3 and C4, for a node of a plan
 unfoldable pub finishing : List ℕ → ℕ → Guard
 finishing p v = finishBy (kind p v) v (children p v)
 
 unfoldable pub aborting : List ℕ → ℕ → Guard
 aborting p v = abortBy (kind p v) v (children p v)
 
--- C5 to C7: a finish is offered by an xor's child and committed by any other node; an xor's child commits once it is picked
+-- C2 to C7, by the code: an xor's child offers where any other node commits, and commits once it is picked
 unfoldable pub guardBy : List ℕ → Code → ℕ → Guard
 guardBy p start v = startBy (above p v) (parent p v) (children p (parent p v)) v
 guardBy p offer v = finishing p v
@@ -79,10 +81,11 @@ guardBy p answered-no v = one start v
 guardBy p pick v = one offer v
 guardBy p down v = one offer v ++ anyOf pick (others p v)
 
+-- C2 to C7: the guard of an event
 unfoldable pub guard : List ℕ → Event → Guard
 guard p e = guardBy p (e .code) (e .node)
 
--- C1: each clause has an event that is heard; an empty clause never holds, an empty list always does
+-- C1: every clause has an event that is heard
 unfoldable pub holds : (Event → Bool) → Guard → Bool
 holds heard g = all (any heard) g
 
@@ -97,6 +100,7 @@ barsBy p answered-no v = at answered-yes v ∷ at answered-no v ∷ []
 barsBy p pick v = map (at pick) (children p (parent p v))
 barsBy p down v = at down v ∷ []
 
+-- D1 and D2: what bars an event, and that one of it is heard
 unfoldable pub bars : List ℕ → Event → List Event
 bars p e = barsBy p (e .code) (e .node)
 

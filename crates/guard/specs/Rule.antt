@@ -10,7 +10,8 @@ use Rattle.plan.specs.Check.{Accepted}
 use Rattle.event.specs.Event.{Code, start, offer, commit, abort, answered-yes, answered-no, pick, down, codeNumber, Event, eventOf, applies}
 use Rattle.event.specs.Valid.{invalid}
 
--- C9: the kind whose children or siblings the guard names; 0 for the root's start
+-- C9: the high digit: the kind of the block that the guard is about, which is the parent for a start, a pick and a turned down, and the node
+-- itself for the others. The root has no parent: 0
 unfoldable pub ruleKind : List ℕ → Code → ℕ → ℕ
 ruleKind p start v = cond (eqb v 0) 0 (aboveByte p v)
 ruleKind p offer v = kindByte p v
@@ -21,15 +22,15 @@ ruleKind p answered-no v = kindByte p v
 ruleKind p pick v = aboveByte p v
 ruleKind p down v = aboveByte p v
 
--- the commit of an xor's child
+-- C10: a commit that waits for a pick
 unfoldable pub isPicked : List ℕ → Event → Bool
 isPicked p e = eqb (codeNumber (e .code)) 3 && inXor p (e .node)
 
--- C10: the kind is the high hexadecimal digit, the code the low one; the commit of an xor's child is f3
+-- C9 and C10: the kind's digit before the code's; a commit that waits for a pick has a number of its own
 unfoldable pub ruleByte : List ℕ → Event → ℕ
 ruleByte p e = cond (isPicked p e) 0xf3 (16 * ruleKind p (e .code) (e .node) + codeNumber (e .code))
 
--- the answer to the question for a rule: 1 to 6, 8 or 9 without one
+-- K2: the answer to the question for a rule: its number (H), and the rule, 0 where the question is refused
 pub record Named : Type 0 where
   pub number : ℕ
   pub rule : ℕ
@@ -37,10 +38,11 @@ pub record Named : Type 0 where
 abbrev pub named : ℕ → ℕ → Named
 named n r = record { number = n; rule = r }
 
+-- K2: refused with 1 to 6, 8 or 9, in this order; else the rule
 unfoldable pub ruleAnswer : List ℕ → ℕ → ℕ → Named
 ruleAnswer p code node = named (invalid p true true code node) (cond (not (eqb (invalid p true true code node) 0)) 0 (ruleByte p (eventOf code node)))
 
--- the bytes that occur
+-- C10: the bytes that occur
 unfoldable pub ruleBytes : List ℕ
 ruleBytes =
     0x01
@@ -55,6 +57,6 @@ ruleBytes =
     ∷ 0xf3
     ∷ []
 
--- CLAIM. No other byte is given.
+-- CLAIM (C10). The rule of an event that applies in an accepted plan is one of these.
 abbrev pub RuleClosed : Type 0
 RuleClosed = (p : List ℕ) (e : Event) → Accepted p → applies p e ≡ true → any (eqb (ruleByte p e)) ruleBytes ≡ true

@@ -1,8 +1,9 @@
-// The guard of an event: what it has to wait for at its site. What a guard is stands in specs/Guard.antt, its bytes in specs/Bytes.antt. The
-// tables by which it is tried and written are in `table` and `whom`, the rule behind it in `digits`. No public function has a `requires`.
-pub mod digits;
+// The guard of an event: what it has to wait for at its site. What a guard is stands in specs/Guard.antt, its bytes in specs/Bytes.antt. It is
+// tried and written by its shape (`table`, specs/Shape.antt) over the nodes that it names (`family`, specs/Family.antt); the rule behind it is a
+// byte (`rule_byte`, specs/Rule.antt). No public function has a `requires`.
+pub mod family;
+pub mod rule_byte;
 pub mod table;
-pub mod whom;
 
 ghost use mathlib.Core.Path.{_≡_};
 ghost use Rattle.guard.specs.Rule.{named, ruleAnswer};
@@ -21,6 +22,6 @@ pub fn rule(plan: &[u8], code: u32, node: u32) -> Named
     if number != 0 {
         return Named { number, rule: 0 };
     }
-    let rule = digits::rule_number(plan, code as u8, node as u8) as u8;
+    let rule = rule_byte::rule_number(plan, code as u8, node as u8) as u8;
     Named { number, rule }
 }

@@ -3,13 +3,11 @@ use mathlib.Core.Path.{_≡_, refl, sym, ap, _∙_}
 use mathlib.Core.Bool.{Bool, _||_, or-assoc, or-false}
 use mathlib.Core.Logic.{⊎-elim}
 use mathlib.Core.List.{List, [], _∷_, map}
-use Prim.Native.Nat.{ℕ, pred, _-_, _≤_}
-use native.Mathlib.Omega.{arith}
-use lib.Dec.{eqb}
+use Prim.Native.Nat.{ℕ, _≤_}
 use lib.ListN.{getD}
-use Rattle.lists.specs.Seq.{any, keep, upFrom}
+use Rattle.lists.specs.Seq.{any}
 use Rattle.lists.proofs.Members.{any-map}
-use Rattle.plan.specs.Plan.{parent, childrenBelow, children, size}
+use Rattle.plan.specs.Plan.{parent, children}
 use Rattle.event.specs.Event.{Code, answered-yes, answered-no, pick, down, codeNumber, codeOf, at, eventOf}
 use Rattle.event.specs.Bit.{hasBit}
 use Rattle.event.proofs.CodeLaws.{two, code-down}
@@ -54,11 +52,3 @@ module _ (p row : List ℕ) (n v : ℕ) where
   pub barred-pick : n ≡ 7 → barred p (heard row) (eventOf n v) ≡ any (heardIn row 7) (children p (parent p v))
   unfolding codeOf barsBy heard codeNumber
   barred-pick e = by-code pick (ap codeOf e) ∙ any-map (heard row) (at pick) (children p (parent p v))
-
--- the nodes from c on, of n, that are u's children
-abbrev pub from : List ℕ → ℕ → ℕ → ℕ → List ℕ
-from p u n c = keep (λ v. eqb (parent p v) u) (upFrom c (n - c))
-
-pub from-all : (p : List ℕ) (u n : ℕ) → n ≡ size p → children p u ≡ from p u n 1
-unfolding children childrenBelow
-from-all p u n e = let q : n - 1 ≡ pred (size p) = omega arith in rw q

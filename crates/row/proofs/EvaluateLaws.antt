@@ -1,109 +1,174 @@
--- A written guard on a row: its bytes say what the list of clauses says, and so does the row of the guard table that gives them. Assumes nothing.
-use mathlib.Core.Path.{_≡_, refl, sym, ap, _∙_}
-use mathlib.Core.Bool.{Bool, true, false, _&&_, _||_, and-true, and-assoc, or-false}
-use mathlib.Core.List.{List, [], _∷_, _++_, append-assoc, append-nil}
-use Prim.Native.Nat.{ℕ, suc, _+_, _*_}
-use native.Mathlib.Nat.{zero-add, suc-add}
+-- A guard's shape on a row, part by part; the ways over the nodes that it names, a turn at a time; and a node's neighbour. Assumes nothing.
+use mathlib.Core.Path.{_≡_, refl, sym, _∙_}
+use mathlib.Core.Bool.{Bool, true, false, _&&_, _||_, not}
+use mathlib.Core.List.{List, [], _∷_}
+use Prim.Native.Nat.{ℕ, zero, suc, pred, _+_, _-_, _≤_, _<_}
 use native.Mathlib.Omega.{arith}
-use borrow.Author.Tests.{eqb-true, eqb-false}
+use borrow.Author.Tests.{eq-eqb, ne-eqb, eqb-true, eqb-false, le-leb}
 use lib.Dec.{eqb}
-use lib.ListN.{length, drop}
-use Rattle.lists.proofs.Logic.{cases, decided}
-use Rattle.lists.specs.Seq.{all, any}
-use Rattle.event.specs.Event.{Event, codeNumber}
-use Rattle.guard.specs.Guard.{Guard, holds}
-use Rattle.guard.specs.Bytes.{encEvents, encClauses, encode}
-use Rattle.guard.specs.Put.{pairs, anyPairs, clause, eachClause, anyClause, codesOf, firstBytes, anyPart, moreOf}
-use Rattle.guard.specs.Row.{rowBytes, RowOf}
-use Rattle.guard.specs.declared.table.Row.{Row}
-use Rattle.guard.proofs.PutLaws.{first-none, first-one, first-each}
-use Rattle.row.specs.Met.{oneMet, clauseMet, eachMet, anyMet, kinMet}
-use Rattle.row.specs.Row.{heardIn, heard, eventsHold, clausesHold, bytesHold}
+use lib.ListN.{take}
+use Rattle.lists.specs.Seq.{all, any, keep, upFrom, lastOr}
+use Rattle.lists.proofs.Logic.{cases, decided, clash, both}
+use Rattle.lists.proofs.Members.{keep-in, up-in}
+use Rattle.lists.proofs.Keep.{keep-yes, keep-no, keep-out}
+use Rattle.plan.specs.Plan.{parent, childrenBelow, children, size}
+use Rattle.event.specs.Event.{Code, codeOf}
+use Rattle.guard.specs.Guard.{beforeIn}
+use Rattle.guard.specs.Put.{codesOf}
+use Rattle.guard.specs.Family.{inFamily, family, familyParent, leftOut, namedNodes, neighbour}
+use Rattle.guard.specs.declared.table.Shape.{Shape}
+use Rattle.guard.proofs.FamilyLaws.{before-last, family-children}
+use Rattle.guard.specs.Shape.{guardShape}
+use Rattle.guard.proofs.NamedLaws.{none-out, named-family, shape-named, each-whole}
+use Rattle.guard.proofs.ShapeLaws.{neighbour-start, neighbour-finish, neighbour-abort}
+use Rattle.row.specs.Row.{heardIn}
+use Rattle.row.specs.Evaluate.{oneHolds, clauseHolds, eachHolds, anyHolds, familyHolds}
 
--- the bytes of a guard mean the guard, whatever stands behind them
-module _ (row : List ℕ) where
-  events-encoded : (es : List Event) (z : List ℕ) → eventsHold row (length es) (encEvents es ++ z) ≡ any (heard row) es
-  unfolding eventsHold encEvents any heard
-  events-encoded [] z = refl
-  events-encoded (e ∷ es) z = ap (λ b. heardIn row (codeNumber (e .code)) (e .node) || b) (events-encoded es z)
+-- the children of u among the nodes from c on, of n
+abbrev pub childrenFrom : List ℕ → ℕ → ℕ → ℕ → List ℕ
+childrenFrom p u n c = keep (λ v. eqb (parent p v) u) (upFrom c (n - c))
 
-  drop-events : (es : List Event) (z : List ℕ) → drop (2 * length es) (encEvents es ++ z) ≡ z
-  unfolding encEvents
-  drop-events [] z = refl
-  drop-events (e ∷ es) z = let q : 2 * suc (length es) ≡ suc (suc (2 * length es)) = omega arith in rw q (drop-events es z)
+pub children-from : (p : List ℕ) (u n : ℕ) → n ≡ size p → children p u ≡ childrenFrom p u n 1
+unfolding children childrenBelow
+children-from p u n e = let q : n - 1 ≡ pred (size p) = omega arith in rw q
 
-  clauses-encoded : (g : Guard) (z : List ℕ) → clausesHold row (length g) (encClauses g ++ z) ≡ all (any (heard row)) g
-  unfolding clausesHold encClauses all
-  clauses-encoded [] z = refl
-  clauses-encoded (c ∷ cs) z =
-      let q : 1 + 2 * length c ≡ suc (2 * length c) = omega arith in
-      rw (append-assoc (encEvents c) (encClauses cs) z, q, events-encoded c (encClauses cs ++ z), drop-events c (encClauses cs ++ z), clauses-encoded cs z)
+-- the search from node c on, with d before it, finds what the whole search finds
+abbrev pub Search : List ℕ → ℕ → ℕ → ℕ → ℕ → ℕ → ℕ → Type 0
+Search p u v stop n c d = beforeIn v (children p u) stop ≡ beforeIn d (childrenFrom p u n c) stop
 
-  pub bytes-encoded : (g : Guard) (z : List ℕ) → bytesHold row (encode g ++ z) ≡ holds (heard row) g
-  unfolding bytesHold encode holds
-  bytes-encoded g z = clauses-encoded g z
+pub search-begin : (p : List ℕ) (u v stop n : ℕ) → n ≡ size p → Search p u v stop n 1 v
+search-begin p u v stop n e = rw (children-from p u n e)
 
-  -- the bytes of a row of the guard table mean that row
-  events-pairs : (ks : List ℕ) (c : ℕ) (z : List ℕ) → eventsHold row (length ks) (pairs ks c ++ z) ≡ any (λ k. heardIn row k c) ks
-  unfolding eventsHold pairs any
-  events-pairs [] c z = refl
-  events-pairs (k ∷ ks) c z = ap (λ b. heardIn row k c || b) (events-pairs ks c z)
+module _ (p : List ℕ) (u v stop n c d : ℕ) (rest : Search p u v stop n c d) where
+  pub search-found : c < n → parent p c ≡ u → c ≡ stop → beforeIn v (children p u) stop ≡ d
+  unfolding beforeIn
+  search-found l k e = rest ∙ rw (keep-yes (λ x. eqb (parent p x) u) c n l (eq-eqb (parent p c) u k), eq-eqb c stop e)
 
-  drop-pairs : (ks : List ℕ) (c : ℕ) (z : List ℕ) → drop (2 * length ks) (pairs ks c ++ z) ≡ z
-  unfolding pairs
-  drop-pairs [] c z = refl
-  drop-pairs (k ∷ ks) c z = let q : 2 * suc (length ks) ≡ suc (suc (2 * length ks)) = omega arith in rw q (drop-pairs ks c z)
+  pub search-on : c < n → parent p c ≡ u → (c ≡ stop → ⊥) → Search p u v stop n (c + 1) c
+  unfolding beforeIn
+  search-on l k e = rest ∙ rw (keep-yes (λ x. eqb (parent p x) u) c n l (eq-eqb (parent p c) u k), ne-eqb c stop e)
 
-  clauses-each : (ks cs : List ℕ) (m : ℕ) (z : List ℕ) →
-      clausesHold row (length cs + m) (eachClause ks cs ++ z) ≡ (all (clauseMet row ks) cs && clausesHold row m z)
-  unfolding clausesHold eachClause clause clauseMet all
-  clauses-each ks [] m z = rw zero-add
-  clauses-each ks (c ∷ cs) m z =
-      let q : 1 + 2 * length ks ≡ suc (2 * length ks) = omega arith in
-      rw (suc-add, append-assoc (pairs ks c) (eachClause ks cs) z, q, events-pairs ks c (eachClause ks cs ++ z), drop-pairs ks c (eachClause ks cs ++ z), clauses-each ks cs m z, and-assoc)
+  pub search-skip : c < n → (parent p c ≡ u → ⊥) → Search p u v stop n (c + 1) d
+  search-skip l k = rest ∙ rw (keep-no (λ x. eqb (parent p x) u) c n l (ne-eqb (parent p c) u k))
 
-  events-any : (k : ℕ) (cs z : List ℕ) → eventsHold row (length cs) (anyPairs k cs ++ z) ≡ any (heardIn row k) cs
-  unfolding eventsHold anyPairs any
-  events-any k [] z = refl
-  events-any k (c ∷ cs) z = ap (λ b. heardIn row k c || b) (events-any k cs z)
+  pub search-out : n ≤ c → beforeIn v (children p u) stop ≡ d
+  unfolding beforeIn
+  search-out l = rest ∙ rw (keep-out (λ x. eqb (parent p x) u) c n l)
 
-  clauses-any : (r : Row) (cs : List ℕ) → clausesHold row (moreOf (r .3)) (anyPart (r .3) cs) ≡ anyMet row r cs
-  unfolding clausesHold moreOf anyPart anyClause anyMet
-  clauses-any r cs = cases (decided (eqb (r .3) 0)) (λ e. rw e)
-      (λ e. rw (e, and-true) (rw append-nil at (events-any (r .3) cs [])))
+-- the root is nobody's child, so the search for it ends at the last
+last-child : (p : List ℕ) (u v : ℕ) → beforeIn v (children p u) 0 ≡ lastOr v (children p u)
+unfolding children childrenBelow
+last-child p u v = before-last v (children p u) 0 (λ c i e. let b = up-in 1 (pred (size p)) (keep-in (λ x. eqb (parent p x) u) (upFrom 1 (pred (size p))) i .0) in omega arith)
 
-  module _ (r : Row) (cs : List ℕ) where
-    first-as : {x : List ℕ} → firstBytes (r .0) (r .1) (r .2) (moreOf (r .3)) cs ≡ x → bytesHold row (rowBytes r cs) ≡ bytesHold row (x ++ anyPart (r .3) cs)
-    unfolding rowBytes
-    first-as e = ap (λ x. bytesHold row (x ++ anyPart (r .3) cs)) e
+module _ (p : List ℕ) (code v : ℕ) {u : ℕ} (is : u ≡ familyParent p (codeOf code) v) (low : 1 ≤ code) (high : code ≤ 4) where
+  family-whole : family p (familyParent p (codeOf code) v) (leftOut (codeOf code) v) ≡ children p u
+  family-whole = rw (← is, ← none-out code v (rw (le-leb 1 code low, le-leb code 7 (omega arith)))) (family-children p u)
 
-    bytes-none : r .0 ≡ 0 → bytesHold row (rowBytes r cs) ≡ anyMet row r cs
-    unfolding bytesHold
-    bytes-none e = first-as (first-none _ _ _ _ _ e) ∙ clauses-any r cs
+  pub neighbour-before : {r stop : ℕ} → code ≡ 1 → stop ≡ v → r ≡ beforeIn v (children p u) stop → r ≡ neighbour (codeOf code) v (family p (familyParent p (codeOf code) v) (leftOut (codeOf code) v))
+  neighbour-before e s h = h ∙ rw (s, family-whole) (sym (neighbour-start code v (children p u) e))
 
-    bytes-one : (r .0 ≡ 0 → ⊥) → r .2 ≡ 0 → bytesHold row (rowBytes r cs) ≡ (heardIn row (r .0) (r .1) && anyMet row r cs)
-    unfolding bytesHold eachClause clause pairs clauseMet all any
-    bytes-one h e = first-as (first-one _ _ _ _ _ h e) ∙ clauses-each (r .0 ∷ []) (r .1 ∷ []) (moreOf (r .3)) (anyPart (r .3) cs) ∙ rw (or-false, and-true, clauses-any r cs)
+  pub neighbour-last : {r stop : ℕ} → (code ≡ 1 → ⊥) → stop ≡ 0 → r ≡ beforeIn v (children p u) stop → r ≡ neighbour (codeOf code) v (family p (familyParent p (codeOf code) v) (leftOut (codeOf code) v))
+  neighbour-last e s h = h ∙ rw (s, family-whole) (last-child p u v ∙ cases (decided (eqb code 4))
+      (λ f. sym (neighbour-abort code v (children p u) (eqb-true code 4 f)))
+      (λ f. let n = eqb-false code 4 f in sym (neighbour-finish code v (children p u) (omega arith) (omega arith))))
 
-    bytes-each : (r .0 ≡ 0 → ⊥) → (r .2 ≡ 0 → ⊥) → bytesHold row (rowBytes r cs) ≡ (all (clauseMet row (codesOf (r .0) (r .2))) cs && anyMet row r cs)
-    unfolding bytesHold
-    bytes-each h e = first-as (first-each _ _ _ _ _ h e) ∙ clauses-each (codesOf (r .0) (r .2)) cs (moreOf (r .3)) (anyPart (r .3) cs) ∙ rw (clauses-any r cs)
+take-none : (n : ℕ) → take {A = ℕ} n [] ≡ []
+take-none zero = refl
+take-none (suc n) = refl
 
-    row-bytes : bytesHold row (rowBytes r cs) ≡ (oneMet row r && kinMet row r cs)
-    unfolding oneMet eachMet kinMet
-    row-bytes = cases (decided (eqb (r .0) 0))
-        (λ e. bytes-none (eqb-true _ 0 e) ∙ rw e)
-        (λ e. cases (decided (eqb (r .2) 0))
-        (λ z. bytes-one (eqb-false _ 0 e) (eqb-true _ 0 z) ∙ rw (e, z))
-        (λ z. bytes-each (eqb-false _ 0 e) (eqb-false _ 0 z) ∙ rw (e, z)))
+module _ (row : List ℕ) (s : Shape) where
+  pub one-none : (eqb (s .code) 0 || not (eqb (s .each) 0)) ≡ true → oneHolds row s ≡ true
+  unfolding oneHolds
+  one-none h = cases (decided (eqb (s .code) 0)) (λ e. rw e) (λ e. cases (decided (eqb (s .each) 0)) (λ z. clash _ (rw (e, z) at h) refl) (λ z. rw (e, z)))
 
-  row-met : {r : Row} {cs : List ℕ} {g : Guard} → RowOf r cs g → (oneMet row r && kinMet row r cs) ≡ holds (heard row) g
-  row-met {r} {cs} {g} h = sym (row-bytes r cs) ∙ ap (bytesHold row) (h .bytes) ∙ (rw append-nil at (bytes-encoded g []))
+  pub one-some : (eqb (s .code) 0 || not (eqb (s .each) 0)) ≡ false → oneHolds row s ≡ heardIn row (s .code) (s .node)
+  unfolding oneHolds
+  one-some h = cases (decided (eqb (s .code) 0)) (λ e. clash _ refl (rw e at h)) (λ e. cases (decided (eqb (s .each) 0)) (λ z. rw (e, z)) (λ z. clash _ refl (rw (e, z) at h)))
 
-  -- the one event is not heard, or the rest decides
-  module _ {r : Row} {cs : List ℕ} {g : Guard} (is : RowOf r cs g) where
-    pub one-unmet : oneMet row r ≡ false → false ≡ holds (heard row) g
-    one-unmet e = sym (rw e) ∙ row-met is
+  pub each-free : (cs : List ℕ) → s .each ≡ 0 → eachHolds row s cs ≡ true
+  unfolding eachHolds
+  each-free cs e = rw (eq-eqb (s .each) 0 e)
 
-    pub by-kin : oneMet row r ≡ true → {b : Bool} → b ≡ kinMet row r cs → b ≡ holds (heard row) g
-    by-kin e h = h ∙ sym (rw e) ∙ row-met is
+  -- else the codes are the first of the three
+  pub each-by : (cs ks : List ℕ) → (s .each ≡ 0 → ⊥) → ks ≡ codesOf (s .code) (s .each) → eachHolds row s cs ≡ all (clauseHolds row ks) cs
+  unfolding eachHolds
+  each-by cs ks n e = rw (ne-eqb (s .each) 0 n, e)
+
+  module _ (cs ds : List ℕ) where
+    pub family-free : (eqb (s .each) 0 && eqb (s .any) 0) ≡ true → familyHolds row s cs ds ≡ true
+    unfolding familyHolds eachHolds anyHolds
+    family-free h = let b = (both (eqb (s .each) 0) (eqb (s .any) 0)) .0 h in rw (b .0, b .1)
+
+    -- the clauses of each fail, or the last clause decides
+    pub family-fails : eachHolds row s cs ≡ false → familyHolds row s cs ds ≡ false
+    unfolding familyHolds
+    family-fails e = rw e
+
+    module _ (e : eachHolds row s cs ≡ true) where
+      pub family-each : s .any ≡ 0 → familyHolds row s cs ds ≡ true
+      unfolding familyHolds anyHolds
+      family-each z = rw (e, eq-eqb (s .any) 0 z)
+
+      pub family-any : (s .any ≡ 0 → ⊥) → familyHolds row s cs ds ≡ any (heardIn row (s .any)) ds
+      unfolding familyHolds anyHolds
+      family-any z = rw (e, ne-eqb (s .any) 0 z)
+
+-- the nodes that the guard names are the family, and all the children where each has a clause
+module _ (row p : List ℕ) (c : Code) (v : ℕ) {s : Shape} (is : s ≡ guardShape p c v) where
+  each-children : eachHolds row s (children p (familyParent p c v)) ≡ eachHolds row s (family p (familyParent p c v) (leftOut c v))
+  each-children = cases (decided (eqb (s .each) 0))
+      (λ e. let z = eqb-true _ 0 e in each-free row s _ z ∙ sym (each-free row s _ z))
+      (λ e. rw (each-whole p c v is (eqb-false _ 0 e), family-children p (familyParent p c v)))
+
+  pub family-named : (eqb (s .each) 0 && eqb (s .any) 0) ≡ false
+      → familyHolds row s (children p (familyParent p c v)) (family p (familyParent p c v) (leftOut c v)) ≡ familyHolds row s (namedNodes p c v) (namedNodes p c v)
+  unfolding familyHolds
+  family-named h = rw (named-family p c v (shape-named p c v is h), each-children)
+
+pub past-two : (n : ℕ) → (n ≡ 0 → ⊥) → (n ≡ 1 → ⊥) → (n ≡ 2 → ⊥) → 3 ≤ n
+past-two n a b c = omega arith
+
+-- three codes are the first n, for an n of 3 or more
+pub three-codes : (k n : ℕ) → 3 ≤ n → k ∷ 4 ∷ 8 ∷ [] ≡ codesOf k n
+three-codes k (suc (suc (suc n))) h = rw (take-none n)
+three-codes k zero h = absurd (omega arith)
+three-codes k (suc zero) h = absurd (omega arith)
+three-codes k (suc (suc zero)) h = absurd (omega arith)
+
+-- a way over the nodes: those kept from node c on say what all of them say, for each or for any
+pub any-begin : (p : List ℕ) (u skip n : ℕ) → n ≡ size p → (g : ℕ → Bool) → any g (family p u skip) ≡ any g (keep (inFamily p u skip) (upFrom 1 (n - 1)))
+unfolding family
+any-begin p u skip n e g = let q : n - 1 ≡ pred (size p) = omega arith in rw q
+
+module _ (f g : ℕ → Bool) (c n : ℕ) {whole : Bool} where
+  module _ (rest : whole ≡ all g (keep f (upFrom c (n - c)))) where
+    pub all-fails : c < n → f c ≡ true → g c ≡ false → whole ≡ false
+    unfolding all
+    all-fails l k h = rest ∙ rw (keep-yes f c n l k, h)
+
+    pub all-on : c < n → f c ≡ true → g c ≡ true → whole ≡ all g (keep f (upFrom (c + 1) (n - (c + 1))))
+    unfolding all
+    all-on l k h = rest ∙ rw (keep-yes f c n l k, h)
+
+    pub all-skip : c < n → f c ≡ false → whole ≡ all g (keep f (upFrom (c + 1) (n - (c + 1))))
+    all-skip l k = rest ∙ rw (keep-no f c n l k)
+
+    pub all-out : n ≤ c → whole ≡ true
+    unfolding all
+    all-out l = rest ∙ rw (keep-out f c n l)
+
+  module _ (rest : whole ≡ any g (keep f (upFrom c (n - c)))) where
+    pub any-found : c < n → f c ≡ true → g c ≡ true → whole ≡ true
+    unfolding any
+    any-found l k h = rest ∙ rw (keep-yes f c n l k, h)
+
+    pub any-on : c < n → f c ≡ true → g c ≡ false → whole ≡ any g (keep f (upFrom (c + 1) (n - (c + 1))))
+    unfolding any
+    any-on l k h = rest ∙ rw (keep-yes f c n l k, h)
+
+    pub any-skip : c < n → f c ≡ false → whole ≡ any g (keep f (upFrom (c + 1) (n - (c + 1))))
+    any-skip l k = rest ∙ rw (keep-no f c n l k)
+
+    pub any-end : n ≤ c → whole ≡ false
+    unfolding any
+    any-end l = rest ∙ rw (keep-out f c n l)

@@ -1,5 +1,5 @@
 -- Laws that the proofs here and in upper crates cite.
+pub mod BytesHold
 pub mod EvaluateLaws
-pub mod MetLaws
 pub mod BarLaws
 pub mod RowLaws

@@ -1,4 +1,3 @@
--- Letters: p a plan, e an event, v a node, row a site's bytes, bs a guard's bytes, m k counts of events and clauses left, r a row of the
--- guard table, cs the nodes that it speaks of.
+-- Letters: p a plan, e an event, v a node, row a site's bytes, s a guard's shape, cs the nodes that it names, ks codes.
 pub mod Row
-pub mod Met
+pub mod Evaluate

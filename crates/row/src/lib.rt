@@ -1,7 +1,7 @@
 // A site's row: what it has heard, an event set in it, and whether an event is barred there and its guard holds. What a row is stands in
 // specs/Row.antt, what bars an event and when a guard holds in the guard's specs/Guard.antt. No public function has a `requires`: each answers
 // for any bytes.
-mod met;
+mod evaluate;
 
 ghost use mathlib.Core.Path.{_≡_};
 ghost use mathlib.Core.List.{[], _∷_};
@@ -46,30 +46,27 @@ pub fn is_barred(plan: &[u8], code: u8, v: u8, row: &[u8]) -> bool
         3 => one_of(b, 3, 4, 0),
         4 => one_of(b, 4, 3, 2),
         5..=6 => one_of(b, 5, 6, 0),
-        7 => met::any_met(plan, plan::parent(plan, v), 0, 7, row),
+        7 => evaluate::any_holds(plan, plan::parent(plan, v), 0, 7, row),
         _ => one_of(b, 8, 0, 0),
     }
 }
 
-// The guard of the event holds, by the row of the guard table and without writing it.
-pub fn is_met(plan: &[u8], code: u8, v: u8, row: &[u8]) -> bool
+// The guard of the event holds, by its shape and without writing it.
+pub fn guard_holds(plan: &[u8], code: u8, v: u8, row: &[u8]) -> bool
     ensures { λ r. ⌜ r ≡ holds (heard (now (row .entry))) (guard (now (plan .entry)) (eventOf code v)) ⌝ }
 {
-    let r = met::row_of(plan, code, v);
-    if !met::one_met(row, r) {
+    let s = evaluate::shape_of(plan, code, v);
+    if !evaluate::one_holds(row, s) {
         return false;
     }
-    if (r.2 == 0) & (r.3 == 0) {
+    if (s.each == 0) & (s.any == 0) {
         return true;
     }
-    if !met::speaks(plan, code, v) {
-        return r.3 == 0;
-    }
-    met::kin_met(
+    evaluate::family_holds(
         plan,
-        guard::whom::whose(plan, code, v),
-        guard::whom::left_out(code, v),
-        r,
+        guard::family::family_parent(plan, code, v),
+        guard::family::left_out(code, v),
+        s,
         row,
     )
 }

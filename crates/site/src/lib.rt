@@ -91,11 +91,11 @@ pub fn step(plan: &[u8], code: u32, node: u32, row: &mut [u8]) -> Verdict
     if row::is_barred(plan, k, v, row) {
         return Verdict::Refused(Refusal::Barred(site));
     }
-    if !row::is_met(plan, k, v, row) {
+    if !row::guard_holds(plan, k, v, row) {
         return Verdict::Refused(Refusal::Unmet(site));
     }
     row::set_heard(row, k, v);
-    let rule = guard::digits::rule_number(plan, k, v) as u8;
+    let rule = guard::rule_byte::rule_number(plan, k, v) as u8;
     Verdict::Passed(PassedEvent {
         code: k,
         node: v,

@@ -1,4 +1,4 @@
--- Events of small plans and what the writer makes of them, beside P1 to P8 (crates/runs/proofs/Cases.antt): rows of the table that these leave out,
+-- Events of small plans and what the writer makes of them, beside P1 to P8 (crates/runs/proofs/Cases.antt): lines of the table that these leave out,
 -- the limits, and every refusal of the writer itself. Assumes nothing.
 use mathlib.Core.Path.{_≡_, refl}
 use mathlib.Core.List.{List, [], _∷_, _++_, map}

@@ -1,5 +1,5 @@
-// The guard of an event, at the front of a buffer of 290 bytes or more: whom it speaks of, and its row.
-use crate::kin;
+// The guard of an event, at the front of a buffer of 290 bytes or more: the nodes that it names, and its shape.
+use crate::family;
 use crate::put;
 use guard::table;
 ghost use mathlib.Core.Path.{_≡_};
@@ -27,16 +27,16 @@ fn before(cs: &[u8], v: u8) -> u8
     d
 }
 
-// The guard's row, and the nodes that it speaks of.
+// The nodes that the guard names, and its shape over them.
 pub(crate) fn fill(plan: &[u8], code: u8, v: u8, buf: &mut [u8]) -> usize
     requires { ⌜ Accepted (now plan) × (290 ≤ length (now buf)) ⌝ }
     ensures { λ r. ⌜ Put (encode (guard (now (plan .entry)) (eventOf code v))) (now (buf .entry)) 0 (now (buf .exit)) r ⌝ }
 {
     let mut cs = [0u8; 32];
-    let n = kin::said(plan, code, v, &mut cs);
+    let n = family::named_nodes(plan, code, v, &mut cs);
     let b = plan::wide(before(&cs[..n], v));
     let u = plan::wide(plan::parent(plan, v));
-    let r = table::row_of(
+    let s = table::shape_of(
         code,
         plan::kind(plan, v),
         plan::above(plan, v),
@@ -44,5 +44,5 @@ pub(crate) fn fill(plan: &[u8], code: u8, v: u8, buf: &mut [u8]) -> usize
         plan::wide(v),
         b,
     );
-    put::put_row(r, &cs[..n], buf)
+    put::put_shape(s, &cs[..n], buf)
 }

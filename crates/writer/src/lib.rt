@@ -1,7 +1,7 @@
 // The guard of an event as bytes, written into a lent buffer. What a guard is, and its bytes, stand in the crate guard; what the writer answers and
 // leaves is specs/Written.antt. The public function has no `requires`: bad input is refused.
+mod family;
 mod fill;
-mod kin;
 mod put;
 
 ghost use mathlib.Core.Path.{_≡_};
@@ -45,7 +45,7 @@ pub fn write_guard(plan: &[u8], code: u32, node: u32, buf: &mut [u8]) -> Written
     if n != 0 {
         return Written::Refused(n);
     }
-    let rule = guard::digits::rule_number(plan, code as u8, node as u8) as u8;
+    let rule = guard::rule_byte::rule_number(plan, code as u8, node as u8) as u8;
     if buf.len() < 290 {
         return write_short(plan, code as u8, node as u8, rule, buf);
     }

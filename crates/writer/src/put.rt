@@ -1,10 +1,10 @@
-// The writers of clauses, and of a row's guard.
-use guard::table::Row;
+// The writers of clauses, and of a shape's guard.
+use guard::table::Shape;
 ghost use Prim.Native.Nat.{_+_, _*_, _≤_};
 ghost use lib.ListN.{length};
 ghost use Rattle.lists.specs.Put.{Put};
 ghost use Rattle.guard.specs.Put.{clause, codesOf, firstBytes, anyPart};
-ghost use Rattle.guard.specs.Row.{rowBytes};
+ghost use Rattle.guard.specs.Shape.{shapeBytes};
 
 // The clause [the first n of first, abort, turned down] of c.
 fn put_clause(first: u8, n: u8, c: u8, buf: &mut [u8], at: usize) -> usize
@@ -70,12 +70,12 @@ fn put_any(code: u8, cs: &[u8], buf: &mut [u8], at: usize) -> usize
     w
 }
 
-// The guard of a row, at the front of buf.
-pub(crate) fn put_row(row: Row, cs: &[u8], buf: &mut [u8]) -> usize
-    requires { ⌜ (row .1 ≤ 255) × (row .2 ≤ 3) × (length (now cs) ≤ 32) × (length (rowBytes row (now cs)) ≤ length (now buf)) ⌝ }
-    ensures { λ r. ⌜ Put (rowBytes row (now (cs .entry))) (now (buf .entry)) 0 (now (buf .exit)) r ⌝ }
+// The guard of a shape that names cs, at the front of buf.
+pub(crate) fn put_shape(s: Shape, cs: &[u8], buf: &mut [u8]) -> usize
+    requires { ⌜ (s .node ≤ 255) × (s .each ≤ 3) × (length (now cs) ≤ 32) × (length (shapeBytes s (now cs)) ≤ length (now buf)) ⌝ }
+    ensures { λ r. ⌜ Put (shapeBytes s (now (cs .entry))) (now (buf .entry)) 0 (now (buf .exit)) r ⌝ }
 {
-    let more = if row.3 == 0 { 0 } else { 1 };
-    let w = put_first(row.0, row.1 as u8, row.2, more, cs, buf);
-    put_any(row.3, cs, buf, w)
+    let more = if s.any == 0 { 0 } else { 1 };
+    let w = put_first(s.code, s.node as u8, s.each, more, cs, buf);
+    put_any(s.any, cs, buf, w)
 }

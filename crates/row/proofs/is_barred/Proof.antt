@@ -1,4 +1,4 @@
--- One row of the table of bars for each arm. Assumes nothing.
+-- One line of the table of bars for each arm. Assumes nothing.
 use mathlib.Core.Path.{_≡_, refl, sym, _∙_}
 use mathlib.Core.Logic.{⊎-elim}
 use mathlib.Core.List.{[], _∷_}
@@ -9,7 +9,7 @@ use Rattle.event.specs.Event.{start, offer, commit, abort, codeNumber, codeOf, 
 use Rattle.event.specs.Bit.{hasBit}
 use Rattle.guard.specs.Guard.{barsBy}
 use Rattle.row.proofs.BarLaws.{barred-own, barred-answer, barred-down, barred-pick}
-use Rattle.guard.proofs.KinLaws.{kin-children}
+use Rattle.guard.proofs.FamilyLaws.{family-children}
 use borrow.Author.Needs.{needs}
 use Rattle.row.proofs.is_barred.Statement.{statement}
 use Rattle.row.proofs.is_barred.Tie as tie
@@ -39,8 +39,8 @@ one-of-requires-4 c κs = search needs
 parent-requires : tie.Need-parent-requires
 parent-requires c κs = search needs
 
-any-met-requires : tie.Need-any-met-requires
-any-met-requires c κs = search needs
+any-holds-requires : tie.Need-any-holds-requires
+any-holds-requires c κs = search needs
 
 one-of-requires-5 : tie.Need-one-of-requires-5
 one-of-requires-5 c κs = search needs
@@ -65,7 +65,7 @@ unfolding any hasBit isCode codeOf codeNumber barsBy
 returns-4 c = c .one-of4 .ensures ∙ barred-own _ _ _ _ (read (c .before .before)) 4 (abort ∷ commit ∷ offer ∷ []) (c .before .match .keys4) refl
 
 returns-5 : tie.Need-returns-5
-returns-5 c = c .any-met .ensures ∙ rw (kin-children, c .before .parent .ensures) (sym (barred-pick _ _ _ _ (c .before .before .match .keys5)))
+returns-5 c = c .any-holds .ensures ∙ rw (family-children, c .before .parent .ensures) (sym (barred-pick _ _ _ _ (c .before .before .match .keys5)))
 
 returns-6 : tie.Need-returns-6
 unfolding any hasBit isCode
@@ -86,7 +86,7 @@ is-barred-spec =
     one-of-requires-3
     one-of-requires-4
     parent-requires
-    any-met-requires
+    any-holds-requires
     one-of-requires-5
     one-of-requires-6
     returns

@@ -63,8 +63,8 @@ unfolding own siteOf
 returns-2 c = let h = c .before .before .before in
     step-valid _ _ _ _ (zero (h .before)) ∙ decide-barred _ _ _ _ (sym (c .before .is-barred .ensures) ∙ c .if2 .taken) ∙ rw (h .host .ensures)
 
-is-met-requires : tie.Need-is-met-requires
-is-met-requires c κs = search needs
+guard-holds-requires : tie.Need-guard-holds-requires
+guard-holds-requires c κs = search needs
 
 same-length-2 : tie.Need-same-length-2
 same-length-2 c = search needs
@@ -73,7 +73,7 @@ returns-3 : tie.Need-returns-3
 unfolding own siteOf
 returns-3 c = let b = c .before .before .before in
     let h = b .before .before .before in
-    step-valid _ _ _ _ (zero (h .before)) ∙ decide-unmet _ _ _ _ (free b) (sym (c .before .is-met .ensures) ∙ not-true _ (c .if3 .taken)) ∙ rw (h .host .ensures)
+    step-valid _ _ _ _ (zero (h .before)) ∙ decide-unmet _ _ _ _ (free b) (sym (c .before .guard-holds .ensures) ∙ not-true _ (c .if3 .taken)) ∙ rw (h .host .ensures)
 
 set-heard-requires : tie.Need-set-heard-requires
 set-heard-requires c κs = search needs
@@ -93,7 +93,7 @@ unfolding own siteOf
 returns-4 c = let m = c .before .before .before .before .before in
     let b = m .before .before .before in
     let h = b .before .before .before in
-    step-valid _ _ _ _ (zero (h .before)) ∙ decide-passed _ _ _ _ (free b) (sym (m .before .is-met .ensures) ∙ not-false _ (m .if3 .left))
+    step-valid _ _ _ _ (zero (h .before)) ∙ decide-passed _ _ _ _ (free b) (sym (m .before .guard-holds .ensures) ∙ not-false _ (m .if3 .left))
     ∙ rw (h .host .ensures, c .before .before .before .set-heard .ensures, c .rule-number .ensures)
 
 pub step-spec : {M : Type 1} → statement M
@@ -109,7 +109,7 @@ step-spec =
     is-barred-requires
     same-length
     returns-2
-    is-met-requires
+    guard-holds-requires
     same-length-2
     returns-3
     set-heard-requires

@@ -3,7 +3,7 @@ use mathlib.Core.Path.{_≡_, refl, sym, _∙_}
 use Prim.Native.Nat.{_-_, _≤_}
 use lib.ListN.{length, drop}
 use Rattle.guard.specs.Guard.{beforeIn}
-use Rattle.guard.proofs.KinLaws.{before-hit, before-miss, before-out}
+use Rattle.guard.proofs.FamilyLaws.{before-hit, before-miss, before-out}
 use borrow.Author.Needs.{needs}
 use Rattle.writer.proofs.fill.before.Statement.{statement}
 use Rattle.writer.proofs.fill.before.Tie as tie
