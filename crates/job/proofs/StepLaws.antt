@@ -16,36 +16,32 @@ use Rattle.event.specs.Site.{Layout, Housed, siteOf}
 use Rattle.event.specs.Valid.{invalid}
 use Rattle.guard.specs.Guard.{guard}
 use Rattle.row.specs.Row.{heard, hear}
-use Rattle.site.specs.declared.Refusal.{Refusal}
 use Rattle.site.specs.declared.Refusal.the-variants.{Invalid, Barred, Unmet, Untrue}
 use Rattle.site.specs.declared.Verdict.{Verdict}
 use Rattle.site.specs.declared.Verdict.the-variants.{Passed, Heard, Refused}
-use Rattle.site.specs.Verdict.{refusalReport, reportOf, verdictNumber}
+use Rattle.site.specs.Verdict.{reportOf, verdictNumber}
 use Rattle.site.specs.Step.{stepInvalid, siteAt, stepOf}
 use Rattle.row.proofs.RowLaws.{hear-again}
 use Rattle.site.proofs.StepLaws.{step-passes, step-leaves, step-by}
 use Rattle.runs.proofs.Net.{passes, relayed}
 use Rattle.runs.proofs.Full.{site-in}
-use Rattle.job.specs.Simulation.{rowOf, withRow, Step, event, message, stateFits, refusedAt, verdictAt, eventBy, happen, tell, simulate, numberOf}
+use Rattle.job.specs.Simulation.{rowOf, withRow, Step, event, message, stateFits, verdictAt, eventBy, happen, tell, simulate, stepNumber}
 use Rattle.job.proofs.StateLaws.{with-same, row-length}
 use Rattle.job.proofs.View.{view}
 
 -- a layout's site leaves the number of a verdict
 number-at-site : (q : ℕ) (v : Verdict) → verdictNumber (verdictAt q v) ≡ verdictNumber v
-unfolding reportOf refusalReport verdictAt refusedAt
+unfolding reportOf verdictAt
 number-at-site q (Passed e) = refl
 number-at-site q Heard = refl
-number-at-site q (Refused why) = go why
-  where
-    go : (w : Refusal) → refusalReport (refusedAt q w) .number ≡ refusalReport w .number
-    go (Invalid n) = refl
-    go (Barred r) = refl
-    go (Unmet r) = refl
-    go Untrue = refl
+number-at-site q (Refused (Invalid n)) = refl
+number-at-site q (Refused (Barred r)) = refl
+number-at-site q (Refused (Unmet r)) = refl
+number-at-site q (Refused Untrue) = refl
 
 -- where every node has its own site, a step names it already
 pub step-at-site : (p : List ℕ) (code node : ℕ) (row : List ℕ) → verdictAt (siteAt p code node) (stepOf p code node row .verdict) ≡ stepOf p code node row .verdict
-unfolding verdictAt refusedAt
+unfolding verdictAt
 step-at-site p code node row = step-by p code node row (λ v b g s. verdictAt (siteAt p code node) (s .verdict) ≡ s .verdict) (λ n h b g. refl) (λ g. refl) refl refl
 
 module _ (p : List ℕ) (lay : Layout) (st : List ℕ) (code node : ℕ) where
@@ -55,14 +51,14 @@ module _ (p : List ℕ) (lay : Layout) (st : List ℕ) (code node : ℕ) where
   -- an event
   happen-passes : eqb (verdictNumber (happen p lay st code node .verdict)) 0
       ≡ (eqb (invalid p (stateFits p lay st) true code node) 0 && eqb (verdictNumber (stepOf p code node here .verdict)) 0)
-  unfolding happen eventBy reportOf refusalReport
+  unfolding happen eventBy reportOf
   happen-passes = cases (decided (eqb (invalid p (stateFits p lay st) true code node) 0))
       (λ z. rw (z, number-at-site (siteOf p lay (eventOf code node)) (stepOf p code node here .verdict)))
       (λ z. rw (z, z))
 
   pub happen-leaves : happen p lay st code node .state
       ≡ cond (eqb (verdictNumber (happen p lay st code node .verdict)) 0) (withRow p st (siteOf p lay (eventOf code node)) (hear here code node)) st
-  unfolding happen eventBy reportOf refusalReport
+  unfolding happen eventBy reportOf
   happen-leaves = cases (decided (eqb (invalid p (stateFits p lay st) true code node) 0))
       (λ z. rw (z, number-at-site (siteOf p lay (eventOf code node)) (stepOf p code node here .verdict), step-leaves p code node here) (put-back (eqb (verdictNumber (stepOf p code node here .verdict)) 0)))
       (λ z. rw (z, z))
@@ -76,19 +72,19 @@ module _ (p : List ℕ) (lay : Layout) (st : List ℕ) (code node : ℕ) where
   module _ (q : ℕ) where
     tell-passes : eqb (verdictNumber (tell p lay st code node q .verdict)) 0
         ≡ (eqb (invalid p (stateFits p lay st) (ltb q (lay .rows)) code node) 0 && heard here (eventOf code node))
-    unfolding tell reportOf refusalReport
+    unfolding tell reportOf
     tell-passes = cases (decided (eqb (invalid p (stateFits p lay st) (ltb q (lay .rows)) code node) 0))
         (λ z. cases (decided (heard here (eventOf code node))) (λ h. rw (z, h)) (λ h. rw (z, h)))
         (λ z. rw (z, z))
 
     pub tell-leaves : tell p lay st code node q .state ≡ cond (eqb (verdictNumber (tell p lay st code node q .verdict)) 0) (withRow p st q (hear (rowOf p st q) code node)) st
-    unfolding tell reportOf refusalReport
+    unfolding tell reportOf
     tell-leaves = cases (decided (eqb (invalid p (stateFits p lay st) (ltb q (lay .rows)) code node) 0))
         (λ z. cases (decided (heard here (eventOf code node))) (λ h. rw (z, h)) (λ h. rw (z, h)))
         (λ z. rw (z, z))
 
 -- a refused step leaves the state
-pub refused-leaves : (p : List ℕ) (lay : Layout) (st : List ℕ) (t : Step) → (numberOf p lay st t ≡ 0 → ⊥) → simulate p lay st t .state ≡ st
+pub refused-leaves : (p : List ℕ) (lay : Layout) (st : List ℕ) (t : Step) → (stepNumber p lay st t ≡ 0 → ⊥) → simulate p lay st t .state ≡ st
 unfolding simulate
 refused-leaves p lay st (event code node) h = happen-leaves p lay st code node ∙ rw (ne-eqb (verdictNumber (happen p lay st code node .verdict)) 0 h)
 refused-leaves p lay st (message code node q) h = tell-leaves p lay st code node q ∙ rw (ne-eqb (verdictNumber (tell p lay st code node q .verdict)) 0 h)

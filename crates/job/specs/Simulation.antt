@@ -48,17 +48,14 @@ simulated st v = record { state = st; verdict = v }
 unfoldable pub stateFits : List ℕ → Layout → List ℕ → Bool
 stateFits p lay st = eqb (length st) (lay .rows * size p)
 
--- B4: the site in a verdict of an event is the layout's, q
-unfoldable pub refusedAt : ℕ → Refusal → Refusal
-refusedAt q (Invalid n) = Invalid n
-refusedAt q (Barred r) = Barred q
-refusedAt q (Unmet r) = Unmet q
-refusedAt q Untrue = Untrue
-
+-- B4: a verdict with the layout's site q, where an event's site goes with it
 unfoldable pub verdictAt : ℕ → Verdict → Verdict
 verdictAt q (Passed e) = Passed (record { code = e .code; node = e .node; site = q; rule = e .rule })
 verdictAt q Heard = Heard
-verdictAt q (Refused why) = Refused (refusedAt q why)
+verdictAt q (Refused (Invalid n)) = Refused (Invalid n)
+verdictAt q (Refused (Barred r)) = Refused (Barred q)
+verdictAt q (Refused (Unmet r)) = Refused (Unmet q)
+verdictAt q (Refused Untrue) = Refused Untrue
 
 -- I2: an event happens by the step of its site q on row q
 unfoldable pub eventBy : List ℕ → List ℕ → ℕ → Stepped → Simulated
@@ -83,8 +80,8 @@ simulate p lay st (event code node) = happen p lay st code node
 simulate p lay st (message code node q) = tell p lay st code node q
 
 -- H0: its number, 0 passed
-abbrev pub numberOf : List ℕ → Layout → List ℕ → Step → ℕ
-numberOf p lay st t = verdictNumber (simulate p lay st t .verdict)
+abbrev pub stepNumber : List ℕ → Layout → List ℕ → Step → ℕ
+stepNumber p lay st t = verdictNumber (simulate p lay st t .verdict)
 
 -- LISTS OF STEPS, from a state st; `zeros` is where a job begins
 unfoldable pub replayFrom : List ℕ → Layout → List ℕ → List Step → List ℕ
@@ -94,7 +91,7 @@ replayFrom p lay st (t ∷ ts) = replayFrom p lay (simulate p lay st t .state) t
 -- the number of each step
 unfoldable pub numbersFrom : List ℕ → Layout → List ℕ → List Step → List ℕ
 numbersFrom p lay st [] = []
-numbersFrom p lay st (t ∷ ts) = numberOf p lay st t ∷ numbersFrom p lay (simulate p lay st t .state) ts
+numbersFrom p lay st (t ∷ ts) = stepNumber p lay st t ∷ numbersFrom p lay (simulate p lay st t .state) ts
 
 -- I3: the event that passed in a step with this number
 unfoldable pub passedOf : Step → ℕ → List Event
@@ -103,7 +100,7 @@ passedOf (message code node q) n = []
 
 unfoldable pub passedFrom : List ℕ → Layout → List ℕ → List Step → List Event
 passedFrom p lay st [] = []
-passedFrom p lay st (t ∷ ts) = passedOf t (numberOf p lay st t) ++ passedFrom p lay (simulate p lay st t .state) ts
+passedFrom p lay st (t ∷ ts) = passedOf t (stepNumber p lay st t) ++ passedFrom p lay (simulate p lay st t .state) ts
 
 -- I3: the event that site q heard in it, one that passed there or of which a message to it passed
 unfoldable pub heardOf : List ℕ → Layout → ℕ → Step → ℕ → List Event
@@ -112,7 +109,7 @@ heardOf p lay q (message code node r) n = cond (eqb n 0 && eqb r q) (eventOf cod
 
 unfoldable pub heardFrom : List ℕ → Layout → ℕ → List ℕ → List Step → List Event
 heardFrom p lay q st [] = []
-heardFrom p lay q st (t ∷ ts) = heardOf p lay q t (numberOf p lay st t) ++ heardFrom p lay q (simulate p lay st t .state) ts
+heardFrom p lay q st (t ∷ ts) = heardOf p lay q t (stepNumber p lay st t) ++ heardFrom p lay q (simulate p lay st t .state) ts
 
 unfoldable pub zeros : List ℕ → Layout → List ℕ
 zeros p lay = replicate (lay .rows * size p) 0

@@ -17,7 +17,7 @@ use Rattle.row.specs.Row.{heard, hear}
 use Rattle.row.proofs.RowLaws.{hear-again}
 use Rattle.site.specs.declared.Refusal.the-variants.{Invalid, Barred, Unmet}
 use Rattle.site.specs.declared.Verdict.the-variants.{Passed, Heard, Refused}
-use Rattle.site.specs.Verdict.{refusalReport, reportOf, verdictNumber}
+use Rattle.site.specs.Verdict.{reportOf, verdictNumber}
 use Rattle.site.specs.Step.{Stepped, stepped, stepInvalid, siteAt, decide, stepOf, hearOf}
 
 -- one of three by two tests
@@ -92,12 +92,12 @@ module _ (p : List ℕ) (code node : ℕ) (row : List ℕ) where
   -- which events pass
   pub step-passes : eqb (verdictNumber (stepOf p code node row .verdict)) 0
       ≡ (eqb (stepInvalid p code node row) 0 && (not (barred p (heard row) (eventOf code node)) && holds (heard row) (guard p (eventOf code node))))
-  unfolding reportOf refusalReport
+  unfolding reportOf
   step-passes = step-by (λ v b g s. eqb (verdictNumber (s .verdict)) 0 ≡ (v && (not b && g))) (λ n h b g. ne-eqb n 0 h) (λ g. refl) refl refl
 
   -- an event that passes is set, and a refused step leaves the row
   pub step-leaves : stepOf p code node row .row ≡ cond (eqb (verdictNumber (stepOf p code node row .verdict)) 0) (hear row code node) row
-  unfolding reportOf refusalReport
+  unfolding reportOf
   step-leaves = step-by (λ v b g s. s .row ≡ cond (eqb (verdictNumber (s .verdict)) 0) (hear row code node) row) (λ n h b g. rw (ne-eqb n 0 h)) (λ g. refl) refl refl
 
   -- a repeated message changes nothing

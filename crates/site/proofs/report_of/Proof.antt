@@ -1,6 +1,7 @@
 -- One report for each case. Assumes nothing.
 use mathlib.Core.Path.{sym, ap, _∙_}
-use Rattle.site.specs.Verdict.{refusalReport, reportOf}
+use Rattle.site.specs.Verdict.{reportOf}
+use Rattle.site.specs.declared.Verdict.the-variants.{Refused}
 use borrow.Author.Needs.{needs}
 use Rattle.site.proofs.report_of.Statement.{statement}
 use Rattle.site.proofs.report_of.Tie as tie
@@ -45,28 +46,28 @@ reported-requires-6 : tie.Need-reported-requires-6
 reported-requires-6 c κs = search needs
 
 returns : tie.Need-returns
-unfolding reportOf refusalReport
+unfolding reportOf
 returns c = c .reported .ensures ∙ sym (ap reportOf (c .before .before .v .given .1))
 
 returns-2 : tie.Need-returns-2
-unfolding reportOf refusalReport
+unfolding reportOf
 returns-2 c = c .reported2 .ensures ∙ sym (ap reportOf (c .before .enum-told .given .1))
 
 returns-3 : tie.Need-returns-3
-unfolding reportOf refusalReport
-returns-3 c = c .reported3 .ensures ∙ sym (ap reportOf (c .before .before .before .before .before .v2 .given .1) ∙ ap refusalReport (c .before .before .why .given .1))
+unfolding reportOf
+returns-3 c = c .reported3 .ensures ∙ sym (ap reportOf (c .before .before .before .before .before .v2 .given .1) ∙ ap (λ w. reportOf (Refused w)) (c .before .before .why .given .1))
 
 returns-4 : tie.Need-returns-4
-unfolding reportOf refusalReport
-returns-4 c = c .reported4 .ensures ∙ sym (ap reportOf (c .before .before .before .before .before .v2 .given .1) ∙ ap refusalReport (c .before .before .why2 .given .1))
+unfolding reportOf
+returns-4 c = c .reported4 .ensures ∙ sym (ap reportOf (c .before .before .before .before .before .v2 .given .1) ∙ ap (λ w. reportOf (Refused w)) (c .before .before .why2 .given .1))
 
 returns-5 : tie.Need-returns-5
-unfolding reportOf refusalReport
-returns-5 c = c .reported5 .ensures ∙ sym (ap reportOf (c .before .before .before .before .before .v2 .given .1) ∙ ap refusalReport (c .before .before .why3 .given .1))
+unfolding reportOf
+returns-5 c = c .reported5 .ensures ∙ sym (ap reportOf (c .before .before .before .before .before .v2 .given .1) ∙ ap (λ w. reportOf (Refused w)) (c .before .before .why3 .given .1))
 
 returns-6 : tie.Need-returns-6
-unfolding reportOf refusalReport
-returns-6 c = c .reported6 .ensures ∙ sym (ap reportOf (c .before .before .before .before .v2 .given .1) ∙ ap refusalReport (c .before .enum-told2 .given .1))
+unfolding reportOf
+returns-6 c = c .reported6 .ensures ∙ sym (ap reportOf (c .before .before .before .before .v2 .given .1) ∙ ap (λ w. reportOf (Refused w)) (c .before .enum-told2 .given .1))
 
 pub report-of-spec : {M : Type 1} → statement M
 report-of-spec =
