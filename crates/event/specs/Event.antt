@@ -6,6 +6,7 @@ use lib.Dec.{eqb, ltb, leb}
 use Rattle.lists.specs.Seq.{any}
 use Rattle.plan.specs.Plan.{Kind, conditional, isKind, kind, size, inXor}
 
+-- B1: the eight codes
 pub data Code : Type 0 where
   start offer commit abort answered-yes answered-no pick down : Code
 
@@ -20,7 +21,7 @@ codeNumber answered-no = 6
 codeNumber pick = 7
 codeNumber down = 8
 
--- a number's code; 8 and all that is no code give the last one
+-- B1: a number's code; 8 and all that is no code give the last one
 unfoldable pub codeOf : ℕ → Code
 codeOf n =
     cond (eqb n 1) start
@@ -31,12 +32,15 @@ codeOf n =
     (cond (eqb n 6) answered-no
     (cond (eqb n 7) pick down))))))
 
+-- B1: the numbers of codes
 unfoldable pub isCode : ℕ → Bool
 isCode n = leb 1 n && leb n 8
 
+-- B1: the same code
 unfoldable pub sameCode : Code → Code → Bool
 sameCode c d = eqb (codeNumber c) (codeNumber d)
 
+-- B1: an event is a code and a node
 pub record Event : Type 0 where
   pub code : Code
   pub node : ℕ
@@ -48,10 +52,11 @@ at c v = record { code = c; node = v }
 abbrev pub eventOf : ℕ → ℕ → Event
 eventOf code node = at (codeOf code) node
 
+-- B1: the same event
 unfoldable pub same : Event → Event → Bool
 same e f = sameCode (e .code) (f .code) && eqb (e .node) (f .node)
 
--- e is among es
+-- I3: e is among es
 unfoldable pub among : List Event → Event → Bool
 among es e = any (λ f. same f e) es
 
@@ -66,6 +71,7 @@ appliesBy answered-no k x = isKind conditional k
 appliesBy pick k x = x
 appliesBy down k x = x
 
+-- B2: for an event of the plan
 unfoldable pub applies : List ℕ → Event → Bool
 applies p e = ltb (e .node) (size p) && appliesBy (e .code) (kind p (e .node)) (inXor p (e .node))
 

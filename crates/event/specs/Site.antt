@@ -16,10 +16,11 @@ hostBy answered-no v u = v
 hostBy pick v u = u
 hostBy down v u = v
 
+-- B3: of an event in a plan
 unfoldable pub hostOf : List ℕ → Event → ℕ
 hostOf p e = hostBy (e .code) (e .node) (parent p (e .node))
 
--- Node v's site has row number `home v` of `rows`. Nodes with the same home share a site.
+-- B4: node v's site has row number `home v` of `rows`. Nodes with the same home share a site.
 pub record Layout : Type 0 where
   pub rows : ℕ
   pub home : ℕ → ℕ
@@ -28,10 +29,10 @@ pub record Layout : Type 0 where
 unfoldable pub own : List ℕ → Layout
 own p = record { rows = size p; home = λ v. v }
 
--- every node of the plan has a row
+-- B4: every node of the plan has a row
 abbrev pub Housed : List ℕ → Layout → Type 0
 Housed p lay = (v : ℕ) → v < size p → lay .home v < lay .rows
 
--- the site where an event happens
+-- B3, B4: the site where an event happens
 unfoldable pub siteOf : List ℕ → Layout → Event → ℕ
 siteOf p lay e = lay .home (hostOf p e)

@@ -8,7 +8,7 @@ use Rattle.plan.specs.Plan.{size}
 use Rattle.plan.specs.Check.{fitNumber, Accepted}
 use Rattle.event.specs.Event.{eventOf, known, applies}
 
--- The number of the first test that fails, and 0 where none does: 1 to 6 the plan, 7 the lent lengths (`fits` says they are right),
+-- H0: the number of the first test that fails, and 0 where none does: 1 to 6 the plan, 7 the lent lengths (`fits` says they are right),
 -- 8 the code, the node and, where a site is named, the site (`sited` says it is in the plan), 9 whether the event applies.
 unfoldable pub invalid : List ℕ → Bool → Bool → ℕ → ℕ → ℕ
 invalid p fits sited code node =
@@ -16,7 +16,7 @@ invalid p fits sited code node =
     (cond (not (known p code node && sited)) 8
     (cond (not (applies p (eventOf code node))) 9 0))
 
--- what is known where none fails
+-- H1 to H9: what holds where none fails
 pub record Valid (p : List ℕ) (fits sited : Bool) (code node : ℕ) : Type 0 where
   pub plan : Accepted p
   pub long : fits ≡ true

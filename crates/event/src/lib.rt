@@ -8,15 +8,21 @@ ghost use Rattle.event.specs.Site.{hostOf};
 ghost use Rattle.event.specs.Bit.{hasBit, withBit};
 ghost use Rattle.event.specs.Valid.{invalid};
 
-// By the code, the parent's kind and the node's own.
+// By the code; a choice also by the parent's kind, an answer by the node's own.
 fn applies_by(code: u8, above: u8, kind: u8) -> bool
     requires { ⌜ (1 ≤ code) × (code ≤ 8) ⌝ }
     ensures { λ r. ⌜ r ≡ appliesBy (codeOf code) (kindOf kind) (isKind xor (kindOf above)) ⌝ }
 {
     match code {
         1 | 3..=4 => true,
-        2 | 7..=8 => above == 5,
-        5..=6 => kind == 7,
+        2 | 7..=8 => match above {
+            5 => true,
+            _ => false,
+        },
+        5..=6 => match kind {
+            7 => true,
+            _ => false,
+        },
         _ => false,
     }
 }

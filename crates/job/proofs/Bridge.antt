@@ -17,7 +17,7 @@ use Rattle.row.specs.Row.{hear}
 use Rattle.runs.specs.Agree.{Bytes}
 use Rattle.runs.proofs.Net.{Move, occur, relay, learn, passes, relayed, moved, passedBy, passedIn, movedAll}
 use Rattle.runs.proofs.Full.{passedIn-append, moved-append, site-in}
-use Rattle.job.specs.Simulation.{rowOf, withRow, Step, event, message, simulate, replayFrom, passedOf, passedFrom, heardOf, heardFrom}
+use Rattle.job.specs.Simulation.{rowOf, withRow, Step, event, message, simulate, stepNumber, replayFrom, passedOf, passedFrom, heardOf, heardFrom}
 use Rattle.job.proofs.View.{view, hear-bytes, view-hear}
 use Rattle.job.proofs.StepLaws.{happen-leaves, tell-leaves, event-passes, message-passes}
 
@@ -162,7 +162,7 @@ module _ (p : List ℕ) (ok : Accepted p) (lay : Layout) (housed : Housed p lay)
         let r = quiet p lay (view p st) (relay (eventOf code node) q) (isCode code) k in
         rw z (record { bytes = fine; seen = r .0; events = r .1; hears = λ r f. rw z }))
 
-  did : (st : List ℕ) → Fine st → (t : Step) → Did st t (simulate p lay st t .number) (simulate p lay st t .state)
+  did : (st : List ℕ) → Fine st → (t : Step) → Did st t (stepNumber p lay st t) (simulate p lay st t .state)
   unfolding simulate
   did st fine (event code node) = rw (happen-leaves p lay st code node) (event-did st fine code node _ (event-passes p ok lay housed st (fine .long) code node))
   did st fine (message code node q) = rw (tell-leaves p lay st code node q) (message-did st fine code node q _ (message-passes p ok lay housed st (fine .long) code node q))
@@ -188,5 +188,5 @@ module _ (p : List ℕ) (ok : Accepted p) (lay : Layout) (housed : Housed p lay)
         hears = λ q f.
             r .hears q f
             ∙ ap (λ (b : Bool). among (heardFrom p lay q (simulate p lay st t .state) ts) f || b) (d .hears q f)
-            ∙ both-heard (heardOf p lay q t (simulate p lay st t .number)) (heardFrom p lay q (simulate p lay st t .state) ts) f (view p st q f);
+            ∙ both-heard (heardOf p lay q t (stepNumber p lay st t)) (heardFrom p lay q (simulate p lay st t .state) ts) f (view p st q f);
       }

@@ -14,9 +14,10 @@ use Rattle.guard.specs.Rule.{ruleKind, isPicked, ruleByte}
 use Rattle.central.specs.Mark.{markNumber}
 use Rattle.retention.specs.Record.{commonTable, classOf, aboveWithin, nodesAbove, fell, countsAbove, countsAs, class, Record, recordOf}
 use Rattle.row.specs.Row.{heardIn, heard, hear}
-use Rattle.site.specs.Verdict.{refusalNumber, verdictNumber, verdictRule}
+use Rattle.site.specs.declared.Report.{Report}
+use Rattle.site.specs.Verdict.{reportOf}
 use Rattle.site.specs.Step.{stepInvalid, decide, stepOf}
-use Rattle.job.specs.Simulation.{rowOf, withRow, Step, stepFrom, Reply, stateFits, eventBy, happen, tell, simulate, replayFrom, numbersFrom, zeros, replay, markBy, markAt, endMarks}
+use Rattle.job.specs.Simulation.{rowOf, withRow, Step, stepFrom, stateFits, verdictAt, eventBy, happen, tell, simulate, replayFrom, numbersFrom, zeros, replay, markBy, markAt, endMarks}
 
 abbrev plan : List ℕ
 plan = 2 ∷ 255 ∷ 1 ∷ 0 ∷ []
@@ -35,10 +36,10 @@ pub record Case : Type 0 where
 case : Layout → List Step → List ℕ → List ℕ → List ℕ → List ℕ → List ℕ → Case
 case lay ts ns qs rs ms cs = record { rows = lay; steps = ts; result = record { numbers = ns; sites = qs; rules = rs; record-after = record { marks = ms; classes = cs } } }
 
--- one number of every reply
-eachFrom : (Reply → ℕ) → Layout → List ℕ → List Step → List ℕ
+-- one number of every report
+eachFrom : (Report → ℕ) → Layout → List ℕ → List Step → List ℕ
 eachFrom f lay st [] = []
-eachFrom f lay st (t ∷ ts) = f (simulate plan lay st t) ∷ eachFrom f lay (simulate plan lay st t .state) ts
+eachFrom f lay st (t ∷ ts) = f (reportOf (simulate plan lay st t .verdict)) ∷ eachFrom f lay (simulate plan lay st t .state) ts
 
 pub resultOf : Layout → List Step → Result
 resultOf lay ts = record {
@@ -72,5 +73,5 @@ cases =
     ∷ []
 
 pub all-right : map (λ k. resultOf (k .rows) (k .steps)) cases ≡ map (λ k. k .result) cases
-unfolding cases case resultOf eachFrom shared own siteOf hostOf hostBy stepFrom simulate happen tell eventBy stateFits rowOf withRow replayFrom numbersFrom replay zeros markBy markAt endMarks recordOf class classOf countsAs countsAbove nodesAbove aboveWithin fell commonTable invalid known applies appliesBy isCode codeOf codeNumber stepOf stepInvalid decide verdictNumber verdictRule refusalNumber ruleByte isPicked ruleKind heard heardIn hear hasBit withBit weight markNumber fitNumber checkNumber lengthOk kindOk parentOk underBlock fits countOk depthOk atAll size kindByte kind kindOf kindNumber isKind parent aboveByte childrenBelow children childCount depth depthWithin above inXor guard guardBy startBy finishBy abortBy finishing aborting isFirst headOr beforeIn holds barred bars barsBy all any keep upFrom allBelow table lastOr
+unfolding cases case resultOf eachFrom shared own siteOf hostOf hostBy stepFrom simulate happen tell eventBy verdictAt stateFits rowOf withRow replayFrom numbersFrom replay zeros markBy markAt endMarks recordOf class classOf countsAs countsAbove nodesAbove aboveWithin fell commonTable invalid known applies appliesBy isCode codeOf codeNumber stepOf stepInvalid decide reportOf ruleByte isPicked ruleKind heard heardIn hear hasBit withBit weight markNumber fitNumber checkNumber lengthOk kindOk parentOk underBlock fits countOk depthOk atAll size kindByte kind kindOf kindNumber isKind parent aboveByte childrenBelow children childCount depth depthWithin above inXor guard guardBy startBy finishBy abortBy finishing aborting isFirst headOr beforeIn holds barred bars barsBy all any keep upFrom allBelow table lastOr
 all-right = refl

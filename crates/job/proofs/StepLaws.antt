@@ -16,31 +16,51 @@ use Rattle.event.specs.Site.{Layout, Housed, siteOf}
 use Rattle.event.specs.Valid.{invalid}
 use Rattle.guard.specs.Guard.{guard}
 use Rattle.row.specs.Row.{heard, hear}
-use Rattle.site.specs.Verdict.{verdictNumber}
-use Rattle.site.specs.Step.{stepInvalid, stepOf}
+use Rattle.site.specs.declared.Refusal.the-variants.{Invalid, Barred, Unmet, Untrue}
+use Rattle.site.specs.declared.Verdict.{Verdict}
+use Rattle.site.specs.declared.Verdict.the-variants.{Passed, Heard, Refused}
+use Rattle.site.specs.Verdict.{reportOf, verdictNumber}
+use Rattle.site.specs.Step.{stepInvalid, siteAt, stepOf}
 use Rattle.row.proofs.RowLaws.{hear-again}
-use Rattle.site.proofs.StepLaws.{step-passes, step-leaves}
+use Rattle.site.proofs.StepLaws.{step-passes, step-leaves, step-by}
 use Rattle.runs.proofs.Net.{passes, relayed}
 use Rattle.runs.proofs.Full.{site-in}
-use Rattle.job.specs.Simulation.{rowOf, withRow, Step, event, message, stateFits, eventBy, happen, tell, simulate}
+use Rattle.job.specs.Simulation.{rowOf, withRow, Step, event, message, stateFits, verdictAt, eventBy, happen, tell, simulate, stepNumber}
 use Rattle.job.proofs.StateLaws.{with-same, row-length}
 use Rattle.job.proofs.View.{view}
+
+-- a layout's site leaves the number of a verdict
+number-at-site : (q : ℕ) (v : Verdict) → verdictNumber (verdictAt q v) ≡ verdictNumber v
+unfolding reportOf verdictAt
+number-at-site q (Passed e) = refl
+number-at-site q Heard = refl
+number-at-site q (Refused (Invalid n)) = refl
+number-at-site q (Refused (Barred r)) = refl
+number-at-site q (Refused (Unmet r)) = refl
+number-at-site q (Refused Untrue) = refl
+
+-- where every node has its own site, a step names it already
+pub step-at-site : (p : List ℕ) (code node : ℕ) (row : List ℕ) → verdictAt (siteAt p code node) (stepOf p code node row .verdict) ≡ stepOf p code node row .verdict
+unfolding verdictAt
+step-at-site p code node row = step-by p code node row (λ v b g s. verdictAt (siteAt p code node) (s .verdict) ≡ s .verdict) (λ n h b g. refl) (λ g. refl) refl refl
 
 module _ (p : List ℕ) (lay : Layout) (st : List ℕ) (code node : ℕ) where
   abbrev here : List ℕ
   here = rowOf p st (siteOf p lay (eventOf code node))
 
   -- an event
-  happen-passes : eqb (happen p lay st code node .number) 0
+  happen-passes : eqb (verdictNumber (happen p lay st code node .verdict)) 0
       ≡ (eqb (invalid p (stateFits p lay st) true code node) 0 && eqb (verdictNumber (stepOf p code node here .verdict)) 0)
-  unfolding happen eventBy
-  happen-passes = cases (decided (eqb (invalid p (stateFits p lay st) true code node) 0)) (λ z. rw z) (λ z. rw (z, z))
+  unfolding happen eventBy reportOf
+  happen-passes = cases (decided (eqb (invalid p (stateFits p lay st) true code node) 0))
+      (λ z. rw (z, number-at-site (siteOf p lay (eventOf code node)) (stepOf p code node here .verdict)))
+      (λ z. rw (z, z))
 
   pub happen-leaves : happen p lay st code node .state
-      ≡ cond (eqb (happen p lay st code node .number) 0) (withRow p st (siteOf p lay (eventOf code node)) (hear here code node)) st
-  unfolding happen eventBy
+      ≡ cond (eqb (verdictNumber (happen p lay st code node .verdict)) 0) (withRow p st (siteOf p lay (eventOf code node)) (hear here code node)) st
+  unfolding happen eventBy reportOf
   happen-leaves = cases (decided (eqb (invalid p (stateFits p lay st) true code node) 0))
-      (λ z. rw (z, step-leaves p code node here) (put-back (eqb (verdictNumber (stepOf p code node here .verdict)) 0)))
+      (λ z. rw (z, number-at-site (siteOf p lay (eventOf code node)) (stepOf p code node here .verdict), step-leaves p code node here) (put-back (eqb (verdictNumber (stepOf p code node here .verdict)) 0)))
       (λ z. rw (z, z))
     where
       put-back : (b : Bool) → withRow p st (siteOf p lay (eventOf code node)) (cond b (hear here code node) here)
@@ -50,30 +70,30 @@ module _ (p : List ℕ) (lay : Layout) (st : List ℕ) (code node : ℕ) where
 
   -- a message to site q
   module _ (q : ℕ) where
-    tell-passes : eqb (tell p lay st code node q .number) 0
+    tell-passes : eqb (verdictNumber (tell p lay st code node q .verdict)) 0
         ≡ (eqb (invalid p (stateFits p lay st) (ltb q (lay .rows)) code node) 0 && heard here (eventOf code node))
-    unfolding tell
+    unfolding tell reportOf
     tell-passes = cases (decided (eqb (invalid p (stateFits p lay st) (ltb q (lay .rows)) code node) 0))
         (λ z. cases (decided (heard here (eventOf code node))) (λ h. rw (z, h)) (λ h. rw (z, h)))
         (λ z. rw (z, z))
 
-    pub tell-leaves : tell p lay st code node q .state ≡ cond (eqb (tell p lay st code node q .number) 0) (withRow p st q (hear (rowOf p st q) code node)) st
-    unfolding tell
+    pub tell-leaves : tell p lay st code node q .state ≡ cond (eqb (verdictNumber (tell p lay st code node q .verdict)) 0) (withRow p st q (hear (rowOf p st q) code node)) st
+    unfolding tell reportOf
     tell-leaves = cases (decided (eqb (invalid p (stateFits p lay st) (ltb q (lay .rows)) code node) 0))
         (λ z. cases (decided (heard here (eventOf code node))) (λ h. rw (z, h)) (λ h. rw (z, h)))
         (λ z. rw (z, z))
 
 -- a refused step leaves the state
-pub refused-leaves : (p : List ℕ) (lay : Layout) (st : List ℕ) (t : Step) → (simulate p lay st t .number ≡ 0 → ⊥) → simulate p lay st t .state ≡ st
+pub refused-leaves : (p : List ℕ) (lay : Layout) (st : List ℕ) (t : Step) → (stepNumber p lay st t ≡ 0 → ⊥) → simulate p lay st t .state ≡ st
 unfolding simulate
-refused-leaves p lay st (event code node) h = happen-leaves p lay st code node ∙ rw (ne-eqb (happen p lay st code node .number) 0 h)
-refused-leaves p lay st (message code node q) h = tell-leaves p lay st code node q ∙ rw (ne-eqb (tell p lay st code node q .number) 0 h)
+refused-leaves p lay st (event code node) h = happen-leaves p lay st code node ∙ rw (ne-eqb (verdictNumber (happen p lay st code node .verdict)) 0 h)
+refused-leaves p lay st (message code node q) h = tell-leaves p lay st code node q ∙ rw (ne-eqb (verdictNumber (tell p lay st code node q .verdict)) 0 h)
 
 -- a repeated message changes nothing
 pub repeat-leaves : (p : List ℕ) (lay : Layout) (st : List ℕ) (code node q : ℕ) → heard (rowOf p st q) (eventOf code node) ≡ true →
     simulate p lay st (message code node q) .state ≡ st
 unfolding simulate
-repeat-leaves p lay st code node q h = tell-leaves p lay st code node q ∙ go (eqb (tell p lay st code node q .number) 0)
+repeat-leaves p lay st code node q h = tell-leaves p lay st code node q ∙ go (eqb (verdictNumber (tell p lay st code node q .verdict)) 0)
   where
     go : (b : Bool) → cond b (withRow p st q (hear (rowOf p st q) code node)) st ≡ st
     go true = rw (hear-again (rowOf p st q) code node h) (with-same p st q)
@@ -109,7 +129,7 @@ module _ (p : List ℕ) (ok : Accepted p) (lay : Layout) (housed : Housed p lay)
   step-valid q l = rw (eq-eqb (length (rowOf p st q)) (size p) (row-length p st (lay .rows) q long l)) (valid-is p ok true code node ∙ and-true _)
 
   -- an event passes if it is one, and it passes by bars and guard at its site
-  pub event-passes : eqb (happen p lay st code node .number) 0 ≡ (isCode code && passes p lay (view p st) (eventOf code node))
+  pub event-passes : eqb (verdictNumber (happen p lay st code node .verdict)) 0 ≡ (isCode code && passes p lay (view p st) (eventOf code node))
   unfolding passes
   event-passes =
       happen-passes p lay st code node
@@ -121,7 +141,7 @@ module _ (p : List ℕ) (ok : Accepted p) (lay : Layout) (housed : Housed p lay)
       (λ k. rw k (sym (shut (isCode code) (applies p (eventOf code node)) _ _ k))))
 
   -- a message passes if it tells of an event to a site, and the event's own site has heard it
-  pub message-passes : (q : ℕ) → eqb (tell p lay st code node q .number) 0 ≡ (isCode code && relayed p lay (view p st) (eventOf code node) q)
+  pub message-passes : (q : ℕ) → eqb (verdictNumber (tell p lay st code node q .verdict)) 0 ≡ (isCode code && relayed p lay (view p st) (eventOf code node) q)
   unfolding relayed
   message-passes q =
       tell-passes p lay st code node q

@@ -19,7 +19,7 @@ use Rattle.row.specs.Row.{heard}
 use Rattle.site.specs.Verdict.{verdictNumber}
 use Rattle.site.specs.Step.{stepOf}
 use Rattle.runs.specs.Agree.{Bytes, Agrees}
-use Rattle.job.specs.Simulation.{rowOf, Step, message, simulate, replayFrom, passedFrom, replay, passed, heardAt, markAt, endMarks}
+use Rattle.job.specs.Simulation.{rowOf, Step, message, simulate, stepNumber, replayFrom, passedFrom, replay, passed, heardAt, markAt, endMarks}
 
 -- the row where e happens, after the steps ts
 unfoldable pub rowAt : List ℕ → Layout → List Step → Event → List ℕ
@@ -42,7 +42,7 @@ pub record Claim (p : List ℕ) (lay : Layout) : Type 0 where
   -- I1
   pub state : (ts : List Step) → Bytes (lay .rows * size p) (replay p lay ts)
   -- I2: a refused step leaves the state
-  pub refused : (st : List ℕ) (t : Step) → (simulate p lay st t .number ≡ 0 → ⊥) → simulate p lay st t .state ≡ st
+  pub refused : (st : List ℕ) (t : Step) → (stepNumber p lay st t ≡ 0 → ⊥) → simulate p lay st t .state ≡ st
   -- I2: a repeated message changes nothing
   pub repeat : (st : List ℕ) (code node q : ℕ) → heard (rowOf p st q) (eventOf code node) ≡ true → simulate p lay st (message code node q) .state ≡ st
   -- I3: a site's row has just what the site has heard

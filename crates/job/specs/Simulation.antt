@@ -12,7 +12,12 @@ use Rattle.event.specs.Site.{Layout, siteOf}
 use Rattle.event.specs.Valid.{invalid}
 use Rattle.central.specs.Mark.{Mark, idle, running, offered, committed, failed, turned-down, markNumber}
 use Rattle.row.specs.Row.{heard, hear}
-use Rattle.site.specs.Verdict.{verdictNumber, verdictRule}
+use Rattle.site.specs.declared.PassedEvent.{PassedEvent}
+use Rattle.site.specs.declared.Refusal.{Refusal}
+use Rattle.site.specs.declared.Refusal.the-variants.{Invalid, Barred, Unmet, Untrue}
+use Rattle.site.specs.declared.Verdict.{Verdict}
+use Rattle.site.specs.declared.Verdict.the-variants.{Passed, Heard, Refused}
+use Rattle.site.specs.Verdict.{verdictNumber}
 use Rattle.site.specs.Step.{Stepped, stepOf}
 
 -- B4: the state is the sites' rows one after another: row q, and the state with another row q
@@ -31,40 +36,52 @@ pub data Step : Type 0 where
 unfoldable pub stepFrom : ℕ → ℕ → ℕ → Step
 stepFrom code node site = cond (eqb site 255) (event code node) (message code node site)
 
--- what a step answers and leaves: its number, 0 passed; the event's site with 0, 10 and 11, else 0; the rule of an event that passed, else 0
-pub record Reply : Type 0 where
-  pub number : ℕ
-  pub site : ℕ
-  pub rule : ℕ
+-- H0, I2: the state that a step leaves, and its verdict
+pub record Simulated : Type 0 where
   pub state : List ℕ
+  pub verdict : Verdict
 
-abbrev pub reply : ℕ → ℕ → ℕ → List ℕ → Reply
-reply n q r st = record { number = n; site = q; rule = r; state = st }
+abbrev pub simulated : List ℕ → Verdict → Simulated
+simulated st v = record { state = st; verdict = v }
 
 -- H7: the state is rows times nodes bytes
 unfoldable pub stateFits : List ℕ → Layout → List ℕ → Bool
 stateFits p lay st = eqb (length st) (lay .rows * size p)
 
--- I2: an event happens by the step of its site q on row q
-unfoldable pub eventBy : List ℕ → List ℕ → ℕ → Stepped → Reply
-eventBy p st q r = reply (verdictNumber (r .verdict)) q (verdictRule (r .verdict)) (withRow p st q (r .row))
+-- B4: a verdict with the layout's site q, where an event's site goes with it
+unfoldable pub verdictAt : ℕ → Verdict → Verdict
+verdictAt q (Passed e) = Passed (record { code = e .code; node = e .node; site = q; rule = e .rule })
+verdictAt q Heard = Heard
+verdictAt q (Refused (Invalid n)) = Refused (Invalid n)
+verdictAt q (Refused (Barred r)) = Refused (Barred q)
+verdictAt q (Refused (Unmet r)) = Refused (Unmet q)
+verdictAt q (Refused Untrue) = Refused Untrue
 
-unfoldable pub happen : List ℕ → Layout → List ℕ → ℕ → ℕ → Reply
+-- I2: an event happens by the step of its site q on row q
+unfoldable pub eventBy : List ℕ → List ℕ → ℕ → Stepped → Simulated
+eventBy p st q s = simulated (withRow p st q (s .row)) (verdictAt q (s .verdict))
+
+unfoldable pub happen : List ℕ → Layout → List ℕ → ℕ → ℕ → Simulated
 happen p lay st code node =
-    cond (not (eqb (invalid p (stateFits p lay st) true code node) 0)) (reply (invalid p (stateFits p lay st) true code node) 0 0 st)
+    cond (not (eqb (invalid p (stateFits p lay st) true code node) 0)) (simulated st (Refused (Invalid (invalid p (stateFits p lay st) true code node))))
     (eventBy p st (siteOf p lay (eventOf code node)) (stepOf p code node (rowOf p st (siteOf p lay (eventOf code node)))))
 
 -- H12, I2: a message of an event that its own site's row has, to site q
-unfoldable pub tell : List ℕ → Layout → List ℕ → ℕ → ℕ → ℕ → Reply
+unfoldable pub tell : List ℕ → Layout → List ℕ → ℕ → ℕ → ℕ → Simulated
 tell p lay st code node q =
     cond (not (eqb (invalid p (stateFits p lay st) (ltb q (lay .rows)) code node) 0))
-    (reply (invalid p (stateFits p lay st) (ltb q (lay .rows)) code node) 0 0 st)
-    (cond (not (heard (rowOf p st (siteOf p lay (eventOf code node))) (eventOf code node))) (reply 12 0 0 st)
-    (reply 0 0 0 (withRow p st q (hear (rowOf p st q) code node))))
+    (simulated st (Refused (Invalid (invalid p (stateFits p lay st) (ltb q (lay .rows)) code node))))
+    (cond (not (heard (rowOf p st (siteOf p lay (eventOf code node))) (eventOf code node))) (simulated st (Refused Untrue))
+    (simulated (withRow p st q (hear (rowOf p st q) code node)) Heard))
 
-unfoldable pub simulate : List ℕ → Layout → List ℕ → Step → Reply
+-- I: a step of either sort
+unfoldable pub simulate : List ℕ → Layout → List ℕ → Step → Simulated
 simulate p lay st (event code node) = happen p lay st code node
 simulate p lay st (message code node q) = tell p lay st code node q
+
+-- H0: its number, 0 passed
+abbrev pub stepNumber : List ℕ → Layout → List ℕ → Step → ℕ
+stepNumber p lay st t = verdictNumber (simulate p lay st t .verdict)
 
 -- LISTS OF STEPS, from a state st; `zeros` is where a job begins
 unfoldable pub replayFrom : List ℕ → Layout → List ℕ → List Step → List ℕ
@@ -74,7 +91,7 @@ replayFrom p lay st (t ∷ ts) = replayFrom p lay (simulate p lay st t .state) t
 -- the number of each step
 unfoldable pub numbersFrom : List ℕ → Layout → List ℕ → List Step → List ℕ
 numbersFrom p lay st [] = []
-numbersFrom p lay st (t ∷ ts) = simulate p lay st t .number ∷ numbersFrom p lay (simulate p lay st t .state) ts
+numbersFrom p lay st (t ∷ ts) = stepNumber p lay st t ∷ numbersFrom p lay (simulate p lay st t .state) ts
 
 -- I3: the event that passed in a step with this number
 unfoldable pub passedOf : Step → ℕ → List Event
@@ -83,7 +100,7 @@ passedOf (message code node q) n = []
 
 unfoldable pub passedFrom : List ℕ → Layout → List ℕ → List Step → List Event
 passedFrom p lay st [] = []
-passedFrom p lay st (t ∷ ts) = passedOf t (simulate p lay st t .number) ++ passedFrom p lay (simulate p lay st t .state) ts
+passedFrom p lay st (t ∷ ts) = passedOf t (stepNumber p lay st t) ++ passedFrom p lay (simulate p lay st t .state) ts
 
 -- I3: the event that site q heard in it, one that passed there or of which a message to it passed
 unfoldable pub heardOf : List ℕ → Layout → ℕ → Step → ℕ → List Event
@@ -92,7 +109,7 @@ heardOf p lay q (message code node r) n = cond (eqb n 0 && eqb r q) (eventOf cod
 
 unfoldable pub heardFrom : List ℕ → Layout → ℕ → List ℕ → List Step → List Event
 heardFrom p lay q st [] = []
-heardFrom p lay q st (t ∷ ts) = heardOf p lay q t (simulate p lay st t .number) ++ heardFrom p lay q (simulate p lay st t .state) ts
+heardFrom p lay q st (t ∷ ts) = heardOf p lay q t (stepNumber p lay st t) ++ heardFrom p lay q (simulate p lay st t .state) ts
 
 unfoldable pub zeros : List ℕ → Layout → List ℕ
 zeros p lay = replicate (lay .rows * size p) 0

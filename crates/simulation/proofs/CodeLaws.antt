@@ -19,11 +19,13 @@ use Rattle.event.proofs.ValidLaws.{valid}
 use Rattle.event.proofs.HostLaws.{host-in}
 use Rattle.central.specs.Mark.{idle, running, offered, committed, failed, turned-down, markNumber}
 use Rattle.row.specs.Row.{heardIn, heard}
-use Rattle.site.specs.Verdict.{verdictNumber, verdictSite, refusalNumber, refusalSite, verdictRule}
-use Rattle.site.specs.Step.{Stepped, stepped, siteAt, stepInvalid, decide, stepOf}
+use Rattle.site.specs.Step.{Stepped, stepped, siteAt, stepInvalid, stepOf}
+use Rattle.site.specs.declared.Refusal.the-variants.{Invalid, Untrue}
 use Rattle.site.specs.declared.Verdict.{Verdict}
-use Rattle.site.proofs.StepLaws.{decide-site}
-use Rattle.job.specs.Simulation.{rowOf, withRow, Reply, reply, stateFits, eventBy, happen, tell, markBy, markAt}
+use Rattle.site.specs.declared.Verdict.the-variants.{Heard, Refused}
+use Rattle.site.proofs.StepLaws.{step-invalid}
+use Rattle.job.specs.Simulation.{rowOf, withRow, Simulated, simulated, stateFits, verdictAt, eventBy, happen, tell, markBy, markAt}
+use Rattle.job.proofs.StepLaws.{step-at-site}
 use Rattle.job.proofs.StateLaws.{row-below, with-same, row-length, byte-at, row-hear}
 use Rattle.simulation.specs.Run.{Placed, markByte}
 
@@ -33,7 +35,7 @@ fits-told p st h = eqb-true (length st) (size p * size p) h
 
 -- THE EVENT HAPPENS
 module _ (p st : List ℕ) (code node : ℕ) where
-  pub happen-refused : (n : ℕ) → n ≡ invalid p (stateFits p (own p) st) true code node → (n ≡ 0 → ⊥) → happen p (own p) st code node ≡ reply n 0 0 st
+  pub happen-refused : (n : ℕ) → n ≡ invalid p (stateFits p (own p) st) true code node → (n ≡ 0 → ⊥) → happen p (own p) st code node ≡ simulated st (Refused (Invalid n))
   unfolding happen
   happen-refused n e h = let f = ne-eqb (invalid p (stateFits p (own p) st) true code node) 0 (λ z. h (e ∙ z)) in rw (f, e)
 
@@ -42,25 +44,21 @@ module _ (p st : List ℕ) (code node : ℕ) where
     unfolding stepInvalid
     same-tests = rw (fits, eq-eqb (length (rowOf p st q)) (size p) (row-length p st (size p) q (fits-told p st fits) inside))
 
-    abbrev result : Stepped → Reply
-    result s = reply (verdictNumber (s .verdict)) (verdictSite (s .verdict)) (verdictRule (s .verdict)) (withRow p st q (s .row))
-
-    valid-happens : invalid p (stateFits p (own p) st) true code node ≡ 0 →
-        happen p (own p) st code node ≡ reply (verdictNumber (decide p code node (rowOf p st q) .verdict)) q (verdictRule (decide p code node (rowOf p st q) .verdict)) (withRow p st q (decide p code node (rowOf p st q) .row))
-    unfolding happen eventBy stepOf
-    valid-happens n = let m : stepInvalid p code node (rowOf p st q) ≡ 0 = same-tests ∙ n in rw (n, ← there, m)
+    abbrev result : Stepped → Simulated
+    result s = simulated (withRow p st q (s .row)) (s .verdict)
 
     -- the site's own step on its row decides all
     happens : happen p (own p) st code node ≡ result (stepOf p code node (rowOf p st q))
-    unfolding stepOf verdictNumber verdictSite verdictRule refusalNumber refusalSite
+    unfolding happen eventBy
     happens = cases (decided (eqb (stepInvalid p code node (rowOf p st q)) 0))
         (λ z. let n : invalid p (stateFits p (own p) st) true code node ≡ 0 = sym same-tests ∙ eqb-true _ 0 z in
-        rw z (valid-happens n ∙ ap (λ k. reply (verdictNumber (decide p code node (rowOf p st q) .verdict)) k (verdictRule (decide p code node (rowOf p st q) .verdict)) (withRow p st q (decide p code node (rowOf p st q) .row)))
-        (there ∙ sym (decide-site p code node (rowOf p st q)))))
-        (λ z. rw z (happen-refused _ same-tests (eqb-false _ 0 z) ∙ ap (λ s. reply (stepInvalid p code node (rowOf p st q)) 0 0 s) (sym (with-same p st q))))
+        rw (n, ← there) (ap (simulated (withRow p st q (stepOf p code node (rowOf p st q) .row))) (ap (λ k. verdictAt k (stepOf p code node (rowOf p st q) .verdict)) there ∙ step-at-site p code node (rowOf p st q))))
+        (λ z. let h = eqb-false _ 0 z in
+        happen-refused _ same-tests h ∙ ap (λ s. simulated s (Refused (Invalid (stepInvalid p code node (rowOf p st q))))) (sym (with-same p st q))
+        ∙ ap result (sym (step-invalid p code node (rowOf p st q) _ refl h)))
 
     pub happen-stepped : (row : List ℕ) (v : Verdict) → stepOf p code node (rowOf p st q) ≡ stepped row v →
-        happen p (own p) st code node ≡ reply (verdictNumber v) (verdictSite v) (verdictRule v) (withRow p st q row)
+        happen p (own p) st code node ≡ simulated (withRow p st q row) v
     happen-stepped row v h = happens ∙ ap result h
 
 -- A MESSAGE
@@ -73,7 +71,7 @@ pub row-spot : (p st : List ℕ) (n h v : ℕ) → n ≡ size p → stateFits p 
 row-spot p st n h v e f a b = rw e (spot-in st (size p) h v (fits-told p st f) a b)
 
 module _ (p st : List ℕ) (code node q : ℕ) where
-  pub tell-refused : (n : ℕ) → n ≡ invalid p (stateFits p (own p) st) (ltb q (size p)) code node → (n ≡ 0 → ⊥) → tell p (own p) st code node q ≡ reply n 0 0 st
+  pub tell-refused : (n : ℕ) → n ≡ invalid p (stateFits p (own p) st) (ltb q (size p)) code node → (n ≡ 0 → ⊥) → tell p (own p) st code node q ≡ simulated st (Refused (Invalid n))
   unfolding tell own
   tell-refused n e h = let f = ne-eqb (invalid p (stateFits p (own p) st) (ltb q (size p)) code node) 0 (λ z. h (e ∙ z)) in rw (f, e)
 
@@ -86,16 +84,16 @@ module _ (p st : List ℕ) (code node q : ℕ) where
         rw (← home, code-number code c, byte-at p st h node (ok .node-in))
 
     module _ (n : ℕ) (count : n ≡ size p) where
-      pub tell-false : hasBit (getD st (h * n + node) 0) code ≡ false → tell p (own p) st code node q ≡ reply 12 0 0 st
+      pub tell-false : hasBit (getD st (h * n + node) 0) code ≡ false → tell p (own p) st code node q ≡ simulated st (Refused Untrue)
       unfolding tell own
       tell-false b = rw (zero, heard-there, ← count, b)
 
       pub tell-done : hasBit (getD st (h * n + node) 0) code ≡ true → (x : ℕ) → x ≡ withBit (getD st (q * n + node) 0) code →
-          tell p (own p) st code node q ≡ reply 0 0 0 (set st (q * n + node) x)
+          tell p (own p) st code node q ≡ simulated (set st (q * n + node) x) Heard
       unfolding tell own
       tell-done b x e =
           let ok = valid p (stateFits p (own p) st) (ltb q (size p)) code node zero in
-          rw (zero, heard-there, ← count, b) (ap (reply 0 0 0) (row-hear p st q node (ok .node-in) code ∙ rw (← count, e)))
+          rw (zero, heard-there, ← count, b) (ap (λ s. simulated s Heard) (row-hear p st q node (ok .node-in) code ∙ rw (← count, e)))
 
 -- LENGTHS AND MARKS
 pub square-small : (n : ℕ) → n ≤ 65535 → n * n ≤ 4294836225
@@ -161,16 +159,16 @@ module _ (p st : List ℕ) (code node n q : ℕ) (count : n ≡ size p) (placed 
   pub placed-end : q < n → q * n + n ≤ length st
   placed-end l = let r = row-below (size p) q (size p) (omega arith) in rw (count, placed .here (omega arith) .1) r
 
-  pub happen-nowhere : n ≤ q → (b : Bool) → b ≡ eqb (length st) (n * n) → (r : ℕ) → r ≡ invalid p b true code node → happen p (own p) st code node ≡ reply r 0 0 st
+  pub happen-nowhere : n ≤ q → (b : Bool) → b ≡ eqb (length st) (n * n) → (r : ℕ) → r ≡ invalid p b true code node → happen p (own p) st code node ≡ simulated st (Refused (Invalid r))
   unfolding stateFits own
   happen-nowhere l b e r f =
       let g : r ≡ invalid p (eqb (length st) (size p * size p)) true code node = f ∙ rw (e, count) in
       happen-refused p st code node r g (λ z. placed .nowhere (omega arith) (sym g ∙ z))
 
   pub happen-there : q < n → (m : ℕ) → m ≡ n → (row : List ℕ) (v : Verdict) → stepOf p code node (take m (drop (q * n) st)) ≡ stepped row v →
-      (x y z : ℕ) → x ≡ verdictNumber v → y ≡ verdictSite v → z ≡ verdictRule v → happen p (own p) st code node ≡ reply x y z (take (q * n) st ++ (row ++ drop m (drop (q * n) st)))
+      happen p (own p) st code node ≡ simulated (take (q * n) st ++ (row ++ drop m (drop (q * n) st))) v
   unfolding rowOf withRow stateFits own
-  happen-there l m w row v h x y z f g k =
+  happen-there l m w row v h =
       let i = placed .here (omega arith) in
       let a : stepOf p code node (take (size p) (drop (q * size p) st)) ≡ stepped row v = rw (w, count) at h in
-      rw (f, g, k, w, count) (happen-stepped p st code node q (i .0) (eq-eqb (length st) (size p * size p) (i .1)) (omega arith) row v a)
+      rw (w, count) (happen-stepped p st code node q (i .0) (eq-eqb (length st) (size p * size p) (i .1)) (omega arith) row v a)

@@ -8,7 +8,9 @@ use borrow.Author.Tests.{ne-eqb}
 use lib.ListN.{length, getD, take, set, length-set}
 use lib.Seq.{take-suc-set, take-length}
 use Rattle.event.specs.Site.{own}
-use Rattle.job.specs.Simulation.{Step, stepFrom, Reply, reply, happen, tell, simulate, replayFrom, numbersFrom}
+use Rattle.site.specs.declared.Verdict.{Verdict}
+use Rattle.site.specs.Verdict.{verdictNumber}
+use Rattle.job.specs.Simulation.{Step, stepFrom, Simulated, simulated, happen, tell, simulate, replayFrom, numbersFrom}
 use Rattle.simulation.specs.Run.{simulateOf, stepsFrom, stepsOf, ran, runNumber, runOf}
 
 -- three numbers as a step
@@ -44,21 +46,22 @@ steps-next bs i l =
 
 module _ (p bs st₀ st ns : List ℕ) (i : ℕ) (t : Running p bs st₀ st ns i) where
   pub run-turn : i < length bs / 3 → (a b c : ℕ) → a ≡ getD bs (3 * i) 0 → b ≡ getD bs (3 * i + 1) 0 → c ≡ getD bs (3 * i + 2) 0 →
-      (st′ : List ℕ) (x q r : ℕ) → simulateOf p a b c st ≡ reply x q r st′ → length st′ ≡ length st → Running p bs st₀ st′ (set ns i x) (i + 1)
+      (st′ : List ℕ) (v : Verdict) → simulateOf p a b c st ≡ simulated st′ v → (x : ℕ) → x ≡ verdictNumber v → length st′ ≡ length st → Running p bs st₀ st′ (set ns i x) (i + 1)
   unfolding replayFrom numbersFrom simulateOf
-  run-turn l a b c f g h st′ x q r e₀ same =
-      let e : simulate p (own p) st (stepFrom (getD bs (3 * i) 0) (getD bs (3 * i + 1) 0) (getD bs (3 * i + 2) 0)) ≡ reply x q r st′ = rw (f, g, h) at e₀ in
+  run-turn l a b c f g h st′ v e₀ x n same =
+      let e : simulate p (own p) st (stepFrom (getD bs (3 * i) 0) (getD bs (3 * i + 1) 0) (getD bs (3 * i + 2) 0)) ≡ simulated st′ v = rw (f, g, h) at e₀ in
       let rest : List Step = stepsFrom (length bs / 3 - (i + 1)) bs (3 * (i + 1)) in
       let front : take (i + 1) (set ns i x) ≡ take i ns ++ (x ∷ []) = ap (λ k. take k (set ns i x)) (add-one i) ∙ take-suc-set ns i x (omega (arith, t .long)) in
       record {
         long = length-set ns i x ∙ t .long;
         kept = same ∙ t .kept;
         within = omega arith;
-        states = ap (λ (r : Reply). replayFrom p (own p) (r .state) rest) (sym e) ∙ ap (replayFrom p (own p) st) (sym (steps-next bs i l)) ∙ t .states;
+        states = ap (λ (r : Simulated). replayFrom p (own p) (r .state) rest) (sym e) ∙ ap (replayFrom p (own p) st) (sym (steps-next bs i l)) ∙ t .states;
         numbers =
             ap (λ (h : List ℕ). h ++ numbersFrom p (own p) st′ rest) front
             ∙ append-assoc (take i ns) (x ∷ []) (numbersFrom p (own p) st′ rest)
-            ∙ ap (λ (r : Reply). take i ns ++ (r .number ∷ numbersFrom p (own p) (r .state) rest)) (sym e)
+            ∙ ap (λ (k : ℕ). take i ns ++ (k ∷ numbersFrom p (own p) st′ rest)) n
+            ∙ ap (λ (r : Simulated). take i ns ++ (verdictNumber (r .verdict) ∷ numbersFrom p (own p) (r .state) rest)) (sym e)
             ∙ ap (λ (s : List Step). take i ns ++ numbersFrom p (own p) st s) (sym (steps-next bs i l))
             ∙ t .numbers;
       }

@@ -13,7 +13,7 @@ use Rattle.event.specs.Site.{own, siteOf}
 use Rattle.event.specs.Bit.{hasBit}
 use Rattle.event.specs.Valid.{invalid}
 use Rattle.retention.specs.Record.{commonTable, tableNumber, Record, recordOf}
-use Rattle.job.specs.Simulation.{Step, stepFrom, Reply, simulate, stateFits, replayFrom, numbersFrom, endMarks}
+use Rattle.job.specs.Simulation.{Step, stepFrom, Simulated, simulate, stateFits, replayFrom, numbersFrom, endMarks}
 
 -- q is the row of the event's site in a state of len bytes; a q that is no row of the plan says that the call is not valid
 pub record Placed (p : List ℕ) (len code node q : ℕ) : Type 0 where
@@ -24,8 +24,8 @@ pub record Placed (p : List ℕ) (len code node q : ℕ) : Type 0 where
 unfoldable pub markByte : ℕ → ℕ
 markByte b = cond (hasBit b 3) 3 (cond (hasBit b 4) 4 (cond (hasBit b 8) 5 (cond (hasBit b 2) 2 (cond (hasBit b 1) 1 0))))
 
--- one step, as three numbers
-unfoldable pub simulateOf : List ℕ → ℕ → ℕ → ℕ → List ℕ → Reply
+-- I2, J1: one step, from three numbers
+unfoldable pub simulateOf : List ℕ → ℕ → ℕ → ℕ → List ℕ → Simulated
 simulateOf p code node site st = simulate p (own p) st (stepFrom code node site)
 
 -- G3: the record by a table, into two buffers
@@ -40,8 +40,8 @@ recorded n m c = record { number = n; marks = m; classes = c }
 unfoldable pub recordNumber : List ℕ → List ℕ → List ℕ → List ℕ → ℕ
 recordNumber p st m c = fitNumber p (stateFits p (own p) st && eqb (length m) (size p) && eqb (length c) (size p))
 
-abbrev written : Record → Recorded
-written r = recorded 0 (r .marks) (r .classes)
+abbrev classed : Record → Recorded
+classed r = recorded 0 (r .marks) (r .classes)
 
 -- H0, H21: the table's number comes before the plan's
 unfoldable pub recordByNumber : List ℕ → List ℕ → List ℕ → List ℕ → List ℕ → ℕ
@@ -50,7 +50,7 @@ recordByNumber p tab st m c = cond (not (eqb (tableNumber tab) 0)) (tableNumber 
 unfoldable pub recordByInto : List ℕ → List ℕ → List ℕ → List ℕ → List ℕ → Recorded
 recordByInto p tab st m c =
     cond (not (eqb (recordByNumber p tab st m c) 0)) (recorded (recordByNumber p tab st m c) m c)
-    (written (recordOf p tab (endMarks p (own p) st)))
+    (classed (recordOf p tab (endMarks p (own p) st)))
 
 -- G1: without a table, by the common one
 abbrev pub recordInto : List ℕ → List ℕ → List ℕ → List ℕ → Recorded

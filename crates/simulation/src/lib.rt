@@ -10,15 +10,8 @@ ghost use Rattle.lists.specs.Seq.{table};
 ghost use Rattle.plan.specs.Plan.{size};
 ghost use Rattle.event.specs.Site.{own};
 ghost use Rattle.retention.specs.Record.{class};
-ghost use Rattle.job.specs.Simulation.{reply, happen, tell, replayFrom, numbersFrom};
+ghost use Rattle.job.specs.Simulation.{simulated, happen, tell, replayFrom, numbersFrom};
 ghost use Rattle.simulation.specs.Run.{Placed, markByte, simulateOf, recorded, recordByInto, recordInto, stepsOf, ran, runOf};
-
-// What a step answers: its number, 0 passed; the event's site with 0, 10 and 11, else 0; the rule of an event that passed, else 0.
-pub struct Reply {
-    pub number: u8,
-    pub site: u8,
-    pub rule: u8,
-}
 
 // len is n times n, with no product that could be too large, and no division for a small n.
 fn is_square(n: usize, len: usize) -> bool
@@ -51,32 +44,23 @@ fn place(plan: &[u8], code: u32, node: u32, len: usize) -> usize
 }
 
 // An event happens: its site's own step on that site's row.
-fn happen(plan: &[u8], code: u32, node: u32, state: &mut [u8]) -> Reply
-    ensures { λ r. ⌜ happen (now (plan .entry)) (own (now (plan .entry))) (now (state .entry)) code node ≡ reply (r .number) (r .site) (r .rule) (now (state .exit)) ⌝ }
+fn happen(plan: &[u8], code: u32, node: u32, state: &mut [u8]) -> site::Verdict
+    ensures { λ r. ⌜ happen (now (plan .entry)) (own (now (plan .entry))) (now (state .entry)) code node ≡ simulated (now (state .exit)) r ⌝ }
 {
     let n = plan::node_count(plan);
     let q = place(plan, code, node, state.len());
     if n <= q {
         let number = event::validate(plan, is_square(n, state.len()), true, code, node);
-        return Reply {
-            number,
-            site: 0,
-            rule: 0,
-        };
+        return site::Verdict::Refused(site::Refusal::Invalid(number));
     }
     let a = q * n;
     let e = a + n;
-    let v = site::step(plan, code, node, &mut state[a..e]);
-    Reply {
-        number: site::number(v),
-        site: site::verdict_site(v),
-        rule: site::verdict_rule(v),
-    }
+    site::step(plan, code, node, &mut state[a..e])
 }
 
 // A site is told of an event that happened.
-fn tell(plan: &[u8], code: u32, node: u32, site: u32, state: &mut [u8]) -> Reply
-    ensures { λ r. ⌜ tell (now (plan .entry)) (own (now (plan .entry))) (now (state .entry)) code node site ≡ reply (r .number) (r .site) (r .rule) (now (state .exit)) ⌝ }
+fn tell(plan: &[u8], code: u32, node: u32, site: u32, state: &mut [u8]) -> site::Verdict
+    ensures { λ r. ⌜ tell (now (plan .entry)) (own (now (plan .entry))) (now (state .entry)) code node site ≡ simulated (now (state .exit)) r ⌝ }
 {
     let n = plan::node_count(plan);
     let number = event::validate(
@@ -87,33 +71,21 @@ fn tell(plan: &[u8], code: u32, node: u32, site: u32, state: &mut [u8]) -> Reply
         node,
     );
     if number != 0 {
-        return Reply {
-            number,
-            site: 0,
-            rule: 0,
-        };
+        return site::Verdict::Refused(site::Refusal::Invalid(number));
     }
     let v = node as usize;
     let home = plan::wide(event::host(plan, code as u8, node as u8));
     if !event::has_bit(state[home * n + v], code as u8) {
-        return Reply {
-            number: 12,
-            site: 0,
-            rule: 0,
-        };
+        return site::Verdict::Refused(site::Refusal::Untrue);
     }
     let at = site as usize * n + v;
     state[at] = event::with_bit(state[at], code as u8);
-    Reply {
-        number: 0,
-        site: 0,
-        rule: 0,
-    }
+    site::Verdict::Heard
 }
 
 // One step. Site 255: the event happens; any other site is told of it.
-pub fn simulate(plan: &[u8], code: u32, node: u32, site: u32, state: &mut [u8]) -> Reply
-    ensures { λ r. ⌜ simulateOf (now (plan .entry)) code node site (now (state .entry)) ≡ reply (r .number) (r .site) (r .rule) (now (state .exit)) ⌝ }
+pub fn simulate(plan: &[u8], code: u32, node: u32, site: u32, state: &mut [u8]) -> site::Verdict
+    ensures { λ r. ⌜ simulateOf (now (plan .entry)) code node site (now (state .entry)) ≡ simulated (now (state .exit)) r ⌝ }
 {
     if site == 255 {
         return happen(plan, code, node, state);
@@ -209,12 +181,6 @@ pub fn record(plan: &[u8], state: &[u8], marks: &mut [u8], classes: &mut [u8]) -
     record_by(plan, &tab, state, marks, classes)
 }
 
-fn wide32(x: u8) -> u32
-    ensures { λ r. ⌜ r ≡ x ⌝ }
-{
-    x as u32
-}
-
 fn run_fits(n: usize, state: usize, steps: usize, numbers: usize) -> bool
     ensures { λ r. ⌜ r ≡ (eqb state (n * n) && eqb (steps % 3) 0 && eqb numbers (steps / 3)) ⌝ }
 {
@@ -235,13 +201,14 @@ fn run_all(plan: &[u8], steps: &[u8], state: &mut [u8], numbers: &mut [u8])
     let mut i = 0;
     while i < numbers.len() {
         let f = 3 * i;
-        let r = simulate(
+        let v = simulate(
             plan,
-            wide32(steps[f]),
-            wide32(steps[f + 1]),
-            wide32(steps[f + 2]),
+            plan::wide32(steps[f]),
+            plan::wide32(steps[f + 1]),
+            plan::wide32(steps[f + 2]),
             state,
         );
+        let r = site::report_of(v);
         numbers[i] = r.number;
         i += 1;
     }

@@ -16,9 +16,9 @@ use Rattle.guard.specs.Rule.{ruleByte}
 use Rattle.row.specs.Row.{heard, hear}
 use Rattle.row.proofs.RowLaws.{hear-again}
 use Rattle.site.specs.declared.Refusal.the-variants.{Invalid, Barred, Unmet}
-use Rattle.site.specs.declared.Verdict.the-variants.{Passed, Refused}
-use Rattle.site.specs.Verdict.{refusalNumber, refusalSite, verdictNumber, verdictSite}
-use Rattle.site.specs.Step.{Stepped, stepped, stepInvalid, siteAt, decide, stepOf, told, hearOf}
+use Rattle.site.specs.declared.Verdict.the-variants.{Passed, Heard, Refused}
+use Rattle.site.specs.Verdict.{reportOf, verdictNumber}
+use Rattle.site.specs.Step.{Stepped, stepped, stepInvalid, siteAt, decide, stepOf, hearOf}
 
 -- one of three by two tests
 three : {A : Type 0} (P : Bool → Bool → A → Type 0) {x y z : A} → ((g : Bool) → P true g x) → P false false y → P false true z →
@@ -34,7 +34,7 @@ module _ (p : List ℕ) (code node : ℕ) (row : List ℕ) where
     unfolding stepInvalid
     step-tested = valid p (eqb (length row) (size p)) true code node h
 
-    pub hear-valid : hearOf p code node row ≡ told (hear row code node) 0
+    pub hear-valid : hearOf p code node row ≡ stepped (hear row code node) Heard
     unfolding hearOf
     hear-valid = rw (eq-eqb (stepInvalid p code node row) 0 h)
 
@@ -44,7 +44,7 @@ module _ (p : List ℕ) (code node : ℕ) (row : List ℕ) where
 
   -- number n failed
   module _ (n : ℕ) (e : n ≡ stepInvalid p code node row) (h : n ≡ 0 → ⊥) where
-    pub hear-invalid : hearOf p code node row ≡ told row n
+    pub hear-invalid : hearOf p code node row ≡ stepped row (Refused (Invalid n))
     unfolding hearOf
     hear-invalid = rw (← e, ne-eqb n 0 h)
 
@@ -82,7 +82,7 @@ module _ (p : List ℕ) (code node : ℕ) (row : List ℕ) where
   decide-by P x y z = three P x y z (barred p (heard row) (eventOf code node)) (holds (heard row) (guard p (eventOf code node)))
 
   -- the same of a step, with an invalid call's answer besides. P also has whether the call is valid
-  step-by : (P : Bool → Bool → Bool → Stepped → Type 0) → ((n : ℕ) → (n ≡ 0 → ⊥) → (b g : Bool) → P false b g (stepped row (Refused (Invalid n)))) →
+  pub step-by : (P : Bool → Bool → Bool → Stepped → Type 0) → ((n : ℕ) → (n ≡ 0 → ⊥) → (b g : Bool) → P false b g (stepped row (Refused (Invalid n)))) →
       ((g : Bool) → P true true g decision-10) → P true false false decision-11 → P true false true decision-0 →
       P (eqb (stepInvalid p code node row) 0) (barred p (heard row) (eventOf code node)) (holds (heard row) (guard p (eventOf code node))) (stepOf p code node row)
   step-by P w x y z = cases (decided (eqb (stepInvalid p code node row) 0))
@@ -92,18 +92,13 @@ module _ (p : List ℕ) (code node : ℕ) (row : List ℕ) where
   -- which events pass
   pub step-passes : eqb (verdictNumber (stepOf p code node row .verdict)) 0
       ≡ (eqb (stepInvalid p code node row) 0 && (not (barred p (heard row) (eventOf code node)) && holds (heard row) (guard p (eventOf code node))))
-  unfolding verdictNumber refusalNumber
+  unfolding reportOf
   step-passes = step-by (λ v b g s. eqb (verdictNumber (s .verdict)) 0 ≡ (v && (not b && g))) (λ n h b g. ne-eqb n 0 h) (λ g. refl) refl refl
 
   -- an event that passes is set, and a refused step leaves the row
   pub step-leaves : stepOf p code node row .row ≡ cond (eqb (verdictNumber (stepOf p code node row .verdict)) 0) (hear row code node) row
-  unfolding verdictNumber refusalNumber
+  unfolding reportOf
   step-leaves = step-by (λ v b g s. s .row ≡ cond (eqb (verdictNumber (s .verdict)) 0) (hear row code node) row) (λ n h b g. rw (ne-eqb n 0 h)) (λ g. refl) refl refl
-
-  -- the event's site goes with every decision
-  pub decide-site : verdictSite (decide p code node row .verdict) ≡ siteAt p code node
-  unfolding verdictSite refusalSite
-  decide-site = decide-by (λ b g s. verdictSite (s .verdict) ≡ siteAt p code node) (λ g. refl) refl refl
 
   -- a repeated message changes nothing
   pub hear-repeat : heard row (eventOf code node) ≡ true → hearOf p code node row .row ≡ row

@@ -15,9 +15,9 @@ use Rattle.site.specs.declared.PassedEvent.{PassedEvent}
 use Rattle.site.specs.declared.Refusal.{Refusal}
 use Rattle.site.specs.declared.Refusal.the-variants.{Invalid, Barred, Unmet}
 use Rattle.site.specs.declared.Verdict.{Verdict}
-use Rattle.site.specs.declared.Verdict.the-variants.{Passed, Refused}
+use Rattle.site.specs.declared.Verdict.the-variants.{Passed, Heard, Refused}
 
--- a row and a verdict
+-- H16, H17: the row that a call leaves, and its verdict
 pub record Stepped : Type 0 where
   pub row : List ℕ
   pub verdict : Verdict
@@ -25,37 +25,29 @@ pub record Stepped : Type 0 where
 abbrev pub stepped : List ℕ → Verdict → Stepped
 stepped r v = record { row = r; verdict = v }
 
--- 1 to 9 for an event on a row of that length
+-- H1 to H9: for an event on a row of that length
 unfoldable pub stepInvalid : List ℕ → ℕ → ℕ → List ℕ → ℕ
 stepInvalid p code node row = invalid p (eqb (length row) (size p)) true code node
 
--- the event's site, where every node has its own
+-- B3, B4: the event's site, where every node has its own
 abbrev pub siteAt : List ℕ → ℕ → ℕ → ℕ
 siteAt p code node = siteOf p (own p) (eventOf code node)
 
--- 10, 11, or the event passes and is set
+-- H10, H11, or the event passes and is set
 unfoldable pub decide : List ℕ → ℕ → ℕ → List ℕ → Stepped
 decide p code node row =
     cond (barred p (heard row) (eventOf code node)) (stepped row (Refused (Barred (siteAt p code node))))
     (cond (not (holds (heard row) (guard p (eventOf code node)))) (stepped row (Refused (Unmet (siteAt p code node))))
     (stepped (hear row code node) (Passed (record { code = code; node = node; site = siteAt p code node; rule = ruleByte p (eventOf code node) }))))
 
--- H16
+-- H16: the tests, and then the decision
 unfoldable pub stepOf : List ℕ → ℕ → ℕ → List ℕ → Stepped
 stepOf p code node row =
     cond (not (eqb (stepInvalid p code node row) 0)) (stepped row (Refused (Invalid (stepInvalid p code node row))))
     (decide p code node row)
 
--- a row and the number of the answer to a message
-pub record Told : Type 0 where
-  pub row : List ℕ
-  pub number : ℕ
-
-abbrev pub told : List ℕ → ℕ → Told
-told r n = record { row = r; number = n }
-
--- H17
-unfoldable pub hearOf : List ℕ → ℕ → ℕ → List ℕ → Told
+-- H17: the event is set. A site cannot know whether a message is true
+unfoldable pub hearOf : List ℕ → ℕ → ℕ → List ℕ → Stepped
 hearOf p code node row =
-    cond (not (eqb (stepInvalid p code node row) 0)) (told row (stepInvalid p code node row))
-    (told (hear row code node) 0)
+    cond (not (eqb (stepInvalid p code node row) 0)) (stepped row (Refused (Invalid (stepInvalid p code node row))))
+    (stepped (hear row code node) Heard)

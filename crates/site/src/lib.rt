@@ -2,8 +2,8 @@
 // specs/Step.antt: one equation for the answer and every lent byte. No public function has a `requires`: a call that is not valid is refused
 // with the number of the test that failed.
 ghost use mathlib.Core.Path.{_≡_};
-ghost use Rattle.site.specs.Verdict.{verdictNumber, verdictSite, verdictRule};
-ghost use Rattle.site.specs.Step.{stepped, stepOf, told, hearOf};
+ghost use Rattle.site.specs.Verdict.{reported, reportOf};
+ghost use Rattle.site.specs.Step.{stepped, stepOf, hearOf};
 
 // An event that passed, with its site and the rule behind its guard.
 pub struct PassedEvent {
@@ -13,67 +13,60 @@ pub struct PassedEvent {
     pub rule: u8,
 }
 
-// Why a step is refused: the call is invalid, with the number of the test that failed (1 to 9); barred or its guard unmet, with the event's site.
+// Why a call is refused: it is invalid, with the number of the test that failed (1 to 9); the event is barred or its guard unmet, with the event's
+// site; or a message tells of what did not happen, which the simulation alone can know.
 pub enum Refusal {
     Invalid(u8),
     Barred(u8),
     Unmet(u8),
+    Untrue,
 }
 
-// A step's answer.
+// The answer to a step or a message: the event passed, the message passed, or a refusal.
 pub enum Verdict {
     Passed(PassedEvent),
+    Heard,
     Refused(Refusal),
 }
 
-// The number of a verdict: 0 passed, else the refusal's.
-pub fn number(v: Verdict) -> u8
-    ensures { λ r. ⌜ r ≡ verdictNumber v ⌝ }
-{
-    match v {
-        Verdict::Passed(_) => 0,
-        Verdict::Refused(why) => match why {
-            Refusal::Invalid(n) => n,
-            Refusal::Barred(_) => 10,
-            Refusal::Unmet(_) => 11,
-        },
-    }
+// A verdict in numbers: 0 passed, else the refusal's; the event's site with 0, 10 and 11 of an event, else 0; the rule of an event that passed, else 0.
+pub struct Report {
+    pub number: u8,
+    pub site: u8,
+    pub rule: u8,
 }
 
-// The site that goes with a verdict, and 0 with one that has none.
-pub fn verdict_site(v: Verdict) -> u8
-    ensures { λ r. ⌜ r ≡ verdictSite v ⌝ }
+fn reported(number: u8, site: u8, rule: u8) -> Report
+    ensures { λ r. ⌜ r ≡ reported number site rule ⌝ }
 {
-    match v {
-        Verdict::Passed(e) => e.site,
-        Verdict::Refused(why) => match why {
-            Refusal::Invalid(_) => 0,
-            Refusal::Barred(site) => site,
-            Refusal::Unmet(site) => site,
-        },
-    }
+    Report { number, site, rule }
 }
 
-// The rule that goes with a verdict, and 0 with a refusal.
-pub fn verdict_rule(v: Verdict) -> u8
-    ensures { λ r. ⌜ r ≡ verdictRule v ⌝ }
+pub fn report_of(v: Verdict) -> Report
+    ensures { λ r. ⌜ r ≡ reportOf v ⌝ }
 {
     match v {
-        Verdict::Passed(e) => e.rule,
-        Verdict::Refused(_) => 0,
+        Verdict::Passed(e) => reported(0, e.site, e.rule),
+        Verdict::Heard => reported(0, 0, 0),
+        Verdict::Refused(why) => match why {
+            Refusal::Invalid(n) => reported(n, 0, 0),
+            Refusal::Barred(site) => reported(10, site, 0),
+            Refusal::Unmet(site) => reported(11, site, 0),
+            Refusal::Untrue => reported(12, 0, 0),
+        },
     }
 }
 
 // A message to a site: the event is set in its row.
-pub fn hear(plan: &[u8], code: u32, node: u32, row: &mut [u8]) -> u8
-    ensures { λ r. ⌜ hearOf (now (plan .entry)) code node (now (row .entry)) ≡ told (now (row .exit)) r ⌝ }
+pub fn hear(plan: &[u8], code: u32, node: u32, row: &mut [u8]) -> Verdict
+    ensures { λ r. ⌜ hearOf (now (plan .entry)) code node (now (row .entry)) ≡ stepped (now (row .exit)) r ⌝ }
 {
     let n = event::validate(plan, row.len() == plan::node_count(plan), true, code, node);
     if n != 0 {
-        return n;
+        return Verdict::Refused(Refusal::Invalid(n));
     }
     row::set_heard(row, code as u8, node as u8);
-    0
+    Verdict::Heard
 }
 
 // A step of the event's site on that site's row: the tests, the bars, the guard, and then the event is set.

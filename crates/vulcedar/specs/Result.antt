@@ -3,8 +3,9 @@ use Prim.Native.Nat.{ℕ, _+_, _*_}
 use Rattle.guard.specs.Rule.{Named}
 use Rattle.writer.specs.declared.Written.{Written}
 use Rattle.writer.specs.Written.{writtenNumber, writtenLength}
-use Rattle.site.specs.Verdict.{verdictNumber, verdictSite, verdictRule}
+use Rattle.site.specs.declared.Report.{Report}
 use Rattle.site.specs.declared.Verdict.{Verdict}
+use Rattle.site.specs.Verdict.{reportOf}
 use Rattle.central.specs.Rule.{rulingNumber, rulingValue}
 use Rattle.central.specs.declared.Ruling.{Ruling}
 
@@ -20,9 +21,12 @@ ofWritten w = result (writtenNumber w) 0 (writtenLength w)
 unfoldable pub ofNamed : Named → ℕ
 ofNamed r = result (r .number) 0 (r .rule)
 
--- K1, K2: a verdict's number, site and rule
-unfoldable pub ofVerdict : Verdict → ℕ
-ofVerdict v = result (verdictNumber v) (verdictSite v) (verdictRule v)
+-- K1, K2: a verdict's number and site, and its rule as the value
+unfoldable pub ofReport : Report → ℕ
+ofReport r = result (r .number) (r .site) (r .rule)
+
+abbrev pub ofVerdict : Verdict → ℕ
+ofVerdict v = ofReport (reportOf v)
 
 -- K2: whether the event is allowed is the value
 unfoldable pub ofRuling : Ruling → ℕ

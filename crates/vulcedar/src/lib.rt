@@ -13,22 +13,23 @@ ghost use Rattle.pass.specs.Pass.{passInto};
 ghost use Rattle.simulation.specs.Run.{simulateOf, recordByInto, recordInto};
 ghost use Rattle.vulcedar.specs.Result.{result, ofWritten, ofNamed, ofVerdict, ofRuling};
 
-fn wide32(x: u8) -> u32
-    ensures { λ r. ⌜ r ≡ x ⌝ }
-{
-    x as u32
-}
-
 fn packed(number: u8, site: u8) -> u32
     ensures { λ r. ⌜ r ≡ result number site 0 ⌝ }
 {
-    wide32(number) + 256 * wide32(site)
+    plan::wide32(number) + 256 * plan::wide32(site)
 }
 
 fn with_rule(number: u8, site: u8, rule: u8) -> u32
     ensures { λ r. ⌜ r ≡ result number site rule ⌝ }
 {
-    packed(number, site) + 65536 * wide32(rule)
+    packed(number, site) + 65536 * plan::wide32(rule)
+}
+
+fn of_verdict(v: site::Verdict) -> u32
+    ensures { λ r. ⌜ r ≡ ofVerdict v ⌝ }
+{
+    let r = site::report_of(v);
+    with_rule(r.number, r.site, r.rule)
 }
 
 #[no_mangle]
@@ -79,22 +80,15 @@ pub extern "C" fn vulcedar_step(plan: &[u8], code: u32, node: u32, row: &mut [u8
     ensures { λ r. ⌜ r ≡ ofVerdict (stepOf (now (plan .entry)) code node (now (row .entry)) .verdict) ⌝ }
     ensures { λ r. ⌜ now (row .exit) ≡ stepOf (now (plan .entry)) code node (now (row .entry)) .row ⌝ }
 {
-    match site::step(plan, code, node, row) {
-        site::Verdict::Passed(e) => with_rule(0, e.site, e.rule),
-        site::Verdict::Refused(why) => match why {
-            site::Refusal::Invalid(n) => packed(n, 0),
-            site::Refusal::Barred(q) => packed(10, q),
-            site::Refusal::Unmet(q) => packed(11, q),
-        },
-    }
+    of_verdict(site::step(plan, code, node, row))
 }
 
 #[no_mangle]
 pub extern "C" fn vulcedar_hear(plan: &[u8], code: u32, node: u32, row: &mut [u8]) -> u32
-    ensures { λ r. ⌜ r ≡ result (hearOf (now (plan .entry)) code node (now (row .entry)) .number) 0 0 ⌝ }
+    ensures { λ r. ⌜ r ≡ ofVerdict (hearOf (now (plan .entry)) code node (now (row .entry)) .verdict) ⌝ }
     ensures { λ r. ⌜ now (row .exit) ≡ hearOf (now (plan .entry)) code node (now (row .entry)) .row ⌝ }
 {
-    packed(site::hear(plan, code, node, row), 0)
+    of_verdict(site::hear(plan, code, node, row))
 }
 
 #[no_mangle]
@@ -113,11 +107,10 @@ pub extern "C" fn vulcedar_simulate(
     site: u32,
     state: &mut [u8],
 ) -> u32
-    ensures { λ r. ⌜ r ≡ result (simulateOf (now (plan .entry)) code node site (now (state .entry)) .number) (simulateOf (now (plan .entry)) code node site (now (state .entry)) .site) (simulateOf (now (plan .entry)) code node site (now (state .entry)) .rule) ⌝ }
+    ensures { λ r. ⌜ r ≡ ofVerdict (simulateOf (now (plan .entry)) code node site (now (state .entry)) .verdict) ⌝ }
     ensures { λ r. ⌜ now (state .exit) ≡ simulateOf (now (plan .entry)) code node site (now (state .entry)) .state ⌝ }
 {
-    let r = simulation::simulate(plan, code, node, site, state);
-    with_rule(r.number, r.site, r.rule)
+    of_verdict(simulation::simulate(plan, code, node, site, state))
 }
 
 #[no_mangle]

@@ -45,20 +45,11 @@ part-step-end c = end c
 step-requires : tie.Need-step-requires
 step-requires c κs = search needs
 
-number-requires : tie.Need-number-requires
-number-requires c κs = search needs
-
-verdict-site-requires : tie.Need-verdict-site-requires
-verdict-site-requires c κs = search needs
-
-verdict-rule-requires : tie.Need-verdict-rule-requires
-verdict-rule-requires c κs = search needs
-
 same-length : tie.Need-same-length
 same-length c = search needs
 
 returns-2 : tie.Need-returns-2
-returns-2 c = let b = c .before in happen-there _ _ _ _ _ _ (b .before .before .before .before .before .before .before .before .node-count .ensures) (b .before .before .before .before .before .before .before .place .ensures) (b .before .before .before .before .before .before .if1 .left) _ (part-width _ _) _ _ (b .before .before .before .before .step .ensures) _ _ _ (b .before .number .ensures) (b .verdict-site .ensures) (c .verdict-rule .ensures)
+returns-2 c = let s = c .before .before in let i = s .before .before in happen-there _ _ _ _ _ _ (i .before .before .node-count .ensures) (i .before .place .ensures) (i .if1 .left) _ (part-width _ _) _ _ (s .step .ensures)
 
 pub happen-spec : {M : Type 1} → statement M
 happen-spec =
@@ -75,8 +66,5 @@ happen-spec =
     part-step-start
     part-step-end
     step-requires
-    number-requires
-    verdict-site-requires
-    verdict-rule-requires
     same-length
     returns-2)

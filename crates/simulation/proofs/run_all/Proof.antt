@@ -1,5 +1,5 @@
 -- The frames before i have been run. Assumes nothing.
-use mathlib.Core.Path.{_∙_, sym}
+use mathlib.Core.Path.{_∙_, sym, ap}
 use native.Mathlib.Omega.{arith}
 use borrow.Author.Needs.{needs}
 use Prim.Native.Nat.{_-_, _/_}
@@ -47,6 +47,9 @@ wide32-requires-3 c κs = search needs
 simulate-requires : tie.Need-simulate-requires Inv-loop μ-loop
 simulate-requires c κs = search needs
 
+report-of-requires : tie.Need-report-of-requires Inv-loop μ-loop
+report-of-requires c κs = search needs
+
 slice-write-numbers : tie.Need-slice-write-numbers Inv-loop μ-loop
 slice-write-numbers c = search needs
 
@@ -54,10 +57,12 @@ add-i : tie.Need-add-i Inv-loop μ-loop
 add-i c = search needs
 
 loop-less : tie.Need-loop-less Inv-loop μ-loop
-loop-less c = omega (arith, c .before .before .before .before .before .before .before .before .before .before .before .loop .inv .long)
+loop-less c = omega (arith, c .before .before .before .before .before .before .before .before .before .before .before .before .loop .inv .long)
 
 loop-again : tie.Need-loop-again Inv-loop μ-loop
-loop-again c = run-turn _ _ _ _ _ _ (c .before .before .before .before .before .before .before .before .before .before .before .loop .inv) (omega (arith, c .before .before .before .before .before .before .before .before .before .before .before .loop .inv .long)) _ _ _ (c .before .before .before .before .before .before .before .before .wide32 .ensures) (c .before .before .before .before .before .before .wide322 .ensures) (c .before .before .before .before .wide323 .ensures) _ _ _ _ (c .before .before .simulate .ensures) (search needs)
+loop-again c = let s = c .before .before .before in let t = s .before .before .before .before .before .before .before .before .before in
+    run-turn _ _ _ _ _ _ (t .loop .inv) (omega (arith, t .loop .inv .long)) _ _ _ (s .before .before .before .before .before .before .wide32 .ensures) (s .before .before .before .before .wide322 .ensures) (s .before .before .wide323 .ensures) _ _ (s .simulate .ensures)
+    _ (ap (λ r. r .number) (c .report-of .ensures)) (search needs)
 
 same-length : tie.Need-same-length Inv-loop μ-loop
 same-length c = c .before .loop .inv .kept
@@ -85,6 +90,7 @@ run-all-spec =
     shared-slice-read-wide32-3
     wide32-requires-3
     simulate-requires
+    report-of-requires
     slice-write-numbers
     add-i
     loop-less

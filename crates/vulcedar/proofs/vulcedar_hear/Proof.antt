@@ -1,6 +1,6 @@
 -- The parts of the contract's one value. Assumes nothing.
-use mathlib.Core.Path.{_≡_, sym, ap, _∙_}
-use Rattle.vulcedar.specs.Result.{result}
+use mathlib.Core.Path.{sym, ap, _∙_}
+use Rattle.vulcedar.specs.Result.{ofVerdict}
 use borrow.Author.Needs.{needs}
 use Rattle.vulcedar.proofs.vulcedar_hear.Statement.{statement}
 use Rattle.vulcedar.proofs.vulcedar_hear.Tie as tie
@@ -8,14 +8,14 @@ use Rattle.vulcedar.proofs.vulcedar_hear.Tie as tie
 hear-requires : tie.Need-hear-requires
 hear-requires c κs = search needs
 
-packed-requires : tie.Need-packed-requires
-packed-requires c κs = search needs
+of-verdict-requires : tie.Need-of-verdict-requires
+of-verdict-requires c κs = search needs
 
 same-length : tie.Need-same-length
 same-length c = search needs
 
 returns : tie.Need-returns
-returns c = let e = sym (c .before .before .before .hear .ensures) in (c .packed .ensures ∙ ap (λ s. result (s .number) 0 0) e, ap (λ s. s .row) e)
+returns c = let e = sym (c .before .before .before .hear .ensures) in (c .of-verdict .ensures ∙ ap (λ s. ofVerdict (s .verdict)) e, ap (λ s. s .row) e)
 
 pub vulcedar-hear-spec : {M : Type 1} → statement M
-vulcedar-hear-spec = tie.close (tie.spec hear-requires packed-requires same-length returns)
+vulcedar-hear-spec = tie.close (tie.spec hear-requires of-verdict-requires same-length returns)
