@@ -14,15 +14,16 @@ use Rattle.event.specs.Site.{Layout, Housed, siteOf}
 use Rattle.event.specs.Valid.{invalid}
 use Rattle.central.specs.Central.{update}
 use Rattle.row.specs.Row.{hear}
-use Rattle.site.specs.Step.{stepInvalid}
+use Rattle.site.specs.Verdict.{reportOf, verdictNumber}
+use Rattle.site.specs.Step.{stepInvalid, stepOf}
 use Rattle.site.proofs.StepLaws.{step-tested, step-passes, step-leaves}
 use Rattle.runs.specs.Agree.{Bytes}
 use Rattle.runs.proofs.Net.{passedIn}
 use Rattle.runs.proofs.Safe.{InStep, steps-on, own-row}
 use Rattle.runs.proofs.Full.{site-in}
-use Rattle.job.specs.Simulation.{rowOf, withRow, Step, stateFits, eventBy, happen, tell, simulate, replayFrom, passedOf, passedFrom}
+use Rattle.job.specs.Simulation.{rowOf, withRow, Step, stateFits, eventBy, happen, tell, simulate, stepNumber, replayFrom, passedOf, passedFrom}
 use Rattle.job.proofs.View.{view}
-use Rattle.job.proofs.StepLaws.{happen-leaves, tell-leaves, valid-is}
+use Rattle.job.proofs.StepLaws.{number-at-site, happen-leaves, tell-leaves, valid-is}
 use Rattle.job.proofs.Bridge.{decodeAll, did-all}
 use Rattle.hosts.specs.Hosts.{Rows, Action, try, send, tryNumber, sendNumber, actionNumber, acted, stepFor, isEvent, keeps}
 use Rattle.hosts.proofs.RowLaws.{row-heard, step-refused, hear-number, hear-leaves}
@@ -77,11 +78,11 @@ module _ (p : List ℕ) (ok : Accepted p) (lay : Layout) (housed : Housed p lay)
 
     -- the simulation's side of a step
     alike-after : (t : Step) (new : Rows) → ((q : ℕ) → length (new q) ≡ size p) → ((q : ℕ) → q < lay .rows → new q ≡ rowOf p (simulate p lay st t .state) q) →
-        Alike (es ++ passedOf t (simulate p lay st t .number)) new (simulate p lay st t .state)
+        Alike (es ++ passedOf t (stepNumber p lay st t)) new (simulate p lay st t .state)
     unfolding replayFrom passedFrom
     alike-after t new long same =
         let d = did-all p ok lay housed st (alike .fine) (t ∷ []) in
-        let e : passedOf t (simulate p lay st t .number) ≡ passedIn p lay (view p st) (decodeAll (t ∷ [])) = sym (append-nil _) ∙ d .events in
+        let e : passedOf t (stepNumber p lay st t) ≡ passedIn p lay (view p st) (decodeAll (t ∷ [])) = sym (append-nil _) ∙ d .events in
         record { fine = d .bytes; long = long; same = same; sound = rw (e, d .seen) (steps-on p ok lay es (view p st) (decodeAll (t ∷ [])) (alike .sound)) }
 
     -- an event is tried
@@ -97,11 +98,11 @@ module _ (p : List ℕ) (ok : Accepted p) (lay : Layout) (housed : Housed p lay)
       unfolding isEvent
       placed e = site-in p ok lay housed (eventOf code node) (and-right (isCode code) _ e)
 
-      try-number : tryNumber p code node (rows q) ≡ happen p lay st code node .number
-      unfolding tryNumber happen eventBy
+      try-number : tryNumber p code node (rows q) ≡ verdictNumber (happen p lay st code node .verdict)
+      unfolding tryNumber happen eventBy reportOf
       try-number = cases (decided (eqb (invalid p true true code node) 0))
           (λ z. let e = sym (event-valid code node) ∙ z in
-          rw (fitting, z, own-site e, alike .same site (placed e)))
+          rw (fitting, z, number-at-site site (stepOf p code node (rowOf p st site) .verdict), own-site e, alike .same site (placed e)))
           (λ z. let v = row-valid code node (rows q) (alike .long q) in
           step-refused p code node (rows q) (rw v z) ∙ v ∙ sym (rw (fitting, z)))
 
@@ -138,8 +139,8 @@ module _ (p : List ℕ) (ok : Accepted p) (lay : Layout) (housed : Housed p lay)
       unfolding keeps
       true-word e = rw e at (and-right (ltb q (lay .rows)) _ kept)
 
-      send-number : sendNumber p code node (rows q) ≡ tell p lay st code node q .number
-      unfolding tell
+      send-number : sendNumber p code node (rows q) ≡ verdictNumber (tell p lay st code node q .verdict)
+      unfolding tell reportOf
       send-number = hear-number p code node (rows q) ∙ row-valid code node (rows q) (alike .long q) ∙ cases (decided (eqb (invalid p true true code node) 0))
           (λ z. let e = sym (event-valid code node) ∙ z in
           eqb-true _ 0 z ∙ sym (rw (fitting, lt-ltb q (lay .rows) inside, z, own-row p lay es (view p st) (alike .sound) (eventOf code node), true-word e)))
@@ -153,11 +154,11 @@ module _ (p : List ℕ) (ok : Accepted p) (lay : Layout) (housed : Housed p lay)
 
     -- one action
     pub record Did (x : Action) : Type 0 where
-      pub number : actionNumber p rows x ≡ simulate p lay st (stepFor x) .number
+      pub number : actionNumber p rows x ≡ stepNumber p lay st (stepFor x)
       pub after : Alike (es ++ passedOf (stepFor x) (actionNumber p rows x)) (acted p rows x) (simulate p lay st (stepFor x) .state)
 
     -- where the action has the step's number, and a row that follows it
-    did-by : (x : Action) (code node q : ℕ) → actionNumber p rows x ≡ simulate p lay st (stepFor x) .number →
+    did-by : (x : Action) (code node q : ℕ) → actionNumber p rows x ≡ stepNumber p lay st (stepFor x) →
         acted p rows x ≡ update rows q (host-row code node q (eqb (actionNumber p rows x) 0)) →
         simulate p lay st (stepFor x) .state ≡ new-state code node q (eqb (actionNumber p rows x) 0) →
         (eqb (actionNumber p rows x) 0 ≡ true → (q < lay .rows) × (node < size p)) → Did x

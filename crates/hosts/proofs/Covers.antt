@@ -13,7 +13,7 @@ use Rattle.event.specs.Event.{isCode, Event, eventOf, applies}
 use Rattle.event.specs.Site.{Layout, Housed, siteOf}
 use Rattle.runs.proofs.Net.{relayed, passedIn, movedAll}
 use Rattle.runs.proofs.Safe.{safe, own-row}
-use Rattle.job.specs.Simulation.{rowOf, Step, event, message, simulate, replayFrom, numbersFrom, passedOf, passedFrom, zeros}
+use Rattle.job.specs.Simulation.{rowOf, Step, event, message, simulate, stepNumber, replayFrom, numbersFrom, passedOf, passedFrom, zeros}
 use Rattle.job.proofs.View.{view, zero-bytes, zero-view}
 use Rattle.job.proofs.StepLaws.{refused-leaves, message-passes}
 use Rattle.hosts.specs.Hosts.{Rows, freshRows, Action, try, send, actionNumber, acted, stepFor, rowsFrom, actionNumbersFrom, happenedFrom, isEvent, keeps, keepsFrom}
@@ -57,7 +57,7 @@ module _ (p : List ℕ) (ok : Accepted p) (lay : Layout) (housed : Housed p lay)
 
   unfoldable pub actionsFrom : List ℕ → List Step → List Action
   actionsFrom st [] = []
-  actionsFrom st (t ∷ ts) = actionsFor t (simulate p lay st t .number) ++ actionsFrom (simulate p lay st t .state) ts
+  actionsFrom st (t ∷ ts) = actionsFor t (stepNumber p lay st t) ++ actionsFrom (simulate p lay st t .state) ts
 
   pub record FollowedFrom (es : List Event) (rows : Rows) (st : List ℕ) (ts : List Step) (xs : List Action) : Type 0 where
     pub kept : keepsFrom p lay es rows xs ≡ true
@@ -74,7 +74,7 @@ module _ (p : List ℕ) (ok : Accepted p) (lay : Layout) (housed : Housed p lay)
         go true = eq-eqb (siteOf p lay (eventOf code node)) _ refl
         go false = refl
 
-    send-keeps : (code node q : ℕ) → eqb (simulate p lay st (message code node q) .number) 0 ≡ true → keeps p lay es (send code node q) ≡ true
+    send-keeps : (code node q : ℕ) → eqb (stepNumber p lay st (message code node q)) 0 ≡ true → keeps p lay es (send code node q) ≡ true
     unfolding keeps isEvent relayed simulate
     send-keeps code node q z =
         let k = sym (message-passes p ok lay housed st (alike .fine .long) code node q) ∙ z in
@@ -103,7 +103,7 @@ module _ (p : List ℕ) (ok : Accepted p) (lay : Layout) (housed : Housed p lay)
       let x = try code node (siteOf p lay (eventOf code node)) in
       let k = try-keeps es rows st alike code node in
       follow-on es rows st alike x ts _ k (follow _ (acted p rows x) _ (did p ok lay housed es rows st alike x k .after) ts)
-  follow es rows st alike (message code node q ∷ ts) = cases (decided (eqb (simulate p lay st (message code node q) .number) 0))
+  follow es rows st alike (message code node q ∷ ts) = cases (decided (eqb (stepNumber p lay st (message code node q)) 0))
       (λ z. let x = send code node q in
       let k = send-keeps es rows st alike code node q z in
       rw z (follow-on es rows st alike x ts _ k (follow _ (acted p rows x) _ (did p ok lay housed es rows st alike x k .after) ts)))

@@ -14,8 +14,8 @@ use Rattle.event.specs.Site.{Layout}
 use Rattle.event.specs.Bit.{withBit}
 use Rattle.central.specs.Central.{update}
 use Rattle.row.specs.Row.{hear}
-use Rattle.site.specs.Verdict.{refusalNumber, verdictNumber}
-use Rattle.site.specs.Step.{stepInvalid, Told, hearOf}
+use Rattle.site.specs.Verdict.{reportOf, verdictNumber}
+use Rattle.site.specs.Step.{stepInvalid, Stepped, hearOf}
 use Rattle.site.proofs.StepLaws.{hear-valid, hear-invalid, step-invalid}
 use Rattle.job.specs.Simulation.{rowOf, withRow, zeros}
 use Rattle.job.proofs.StateLaws.{row-below, byte-at, row-hear}
@@ -68,16 +68,16 @@ module _ (p st : List ℕ) (q v code : ℕ) (node : v < size p) where
 -- what a step and a message answer and leave
 module _ (p : List ℕ) (code node : ℕ) (row : List ℕ) where
   pub step-refused : (eqb (stepInvalid p code node row) 0 ≡ false) → tryNumber p code node row ≡ stepInvalid p code node row
-  unfolding tryNumber verdictNumber refusalNumber
+  unfolding tryNumber reportOf
   step-refused z = rw (step-invalid p code node row (stepInvalid p code node row) refl (eqb-false _ 0 z))
 
   pub hear-number : sendNumber p code node row ≡ stepInvalid p code node row
-  unfolding sendNumber
+  unfolding sendNumber reportOf
   hear-number = cases (decided (eqb (stepInvalid p code node row) 0))
-      (λ z. ap (λ (t : Told). t .number) (hear-valid p code node row (eqb-true _ 0 z)) ∙ sym (eqb-true _ 0 z))
-      (λ z. ap (λ (t : Told). t .number) (hear-invalid p code node row (stepInvalid p code node row) refl (eqb-false _ 0 z)))
+      (λ z. ap (λ (s : Stepped). verdictNumber (s .verdict)) (hear-valid p code node row (eqb-true _ 0 z)) ∙ sym (eqb-true _ 0 z))
+      (λ z. ap (λ (s : Stepped). verdictNumber (s .verdict)) (hear-invalid p code node row (stepInvalid p code node row) refl (eqb-false _ 0 z)))
 
   pub hear-leaves : hearOf p code node row .row ≡ cond (eqb (sendNumber p code node row) 0) (hear row code node) row
   hear-leaves = cases (decided (eqb (stepInvalid p code node row) 0))
-      (λ z. ap (λ (t : Told). t .row) (hear-valid p code node row (eqb-true _ 0 z)) ∙ sym (rw (hear-number, z)))
-      (λ z. ap (λ (t : Told). t .row) (hear-invalid p code node row (stepInvalid p code node row) refl (eqb-false _ 0 z)) ∙ sym (rw (hear-number, z)))
+      (λ z. ap (λ (s : Stepped). s .row) (hear-valid p code node row (eqb-true _ 0 z)) ∙ sym (rw (hear-number, z)))
+      (λ z. ap (λ (s : Stepped). s .row) (hear-invalid p code node row (stepInvalid p code node row) refl (eqb-false _ 0 z)) ∙ sym (rw (hear-number, z)))

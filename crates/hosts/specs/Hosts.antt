@@ -38,7 +38,7 @@ unfoldable pub tryNumber : List ℕ → ℕ → ℕ → List ℕ → ℕ
 tryNumber p code node row = verdictNumber (stepOf p code node row .verdict)
 
 unfoldable pub sendNumber : List ℕ → ℕ → ℕ → List ℕ → ℕ
-sendNumber p code node row = hearOf p code node row .number
+sendNumber p code node row = verdictNumber (hearOf p code node row .verdict)
 
 unfoldable pub actionNumber : List ℕ → Rows → Action → ℕ
 actionNumber p rows (try code node q) = tryNumber p code node (rows q)

@@ -30,7 +30,7 @@ use Rattle.job.proofs.StateLaws.{with-same, row-length}
 use Rattle.job.proofs.View.{view}
 
 -- a layout's site leaves the number of a verdict
-number-at-site : (q : ℕ) (v : Verdict) → verdictNumber (verdictAt q v) ≡ verdictNumber v
+pub number-at-site : (q : ℕ) (v : Verdict) → verdictNumber (verdictAt q v) ≡ verdictNumber v
 unfolding reportOf verdictAt
 number-at-site q (Passed e) = refl
 number-at-site q Heard = refl
