@@ -8,6 +8,7 @@ use Rattle.site.specs.declared.Verdict.{Verdict}
 use Rattle.central.specs.Rule.{rulingNumber}
 use Rattle.central.specs.declared.Ruling.{Ruling}
 use Rattle.central.specs.declared.Ruling.the-variants as ruling
+use Rattle.script.specs.declared.TextResult.{TextResult}
 
 -- K1: the number in bits 0 to 7, the event's site in bits 8 to 15, a value in bits 16 to 31
 abbrev pub result : ℕ → ℕ → ℕ → ℕ
@@ -33,3 +34,7 @@ rulingValue (ruling.Refused n) = 0
 
 unfoldable pub ofRuling : Ruling → ℕ
 ofRuling r = result (rulingNumber r) 0 (rulingValue r)
+
+-- K4: the length printed is the value
+unfoldable pub ofText : TextResult → ℕ
+ofText r = result (r .number) 0 (r .length)
