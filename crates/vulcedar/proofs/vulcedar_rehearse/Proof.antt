@@ -1,38 +1,35 @@
+-- A text prints at most 15,483 bytes, so their number fits the value. Assumes nothing.
+use Prim.Native.Nat.{_≤_}
+use native.Mathlib.Omega.{arith}
+use Rattle.script.proofs.ScriptLaws.{run-length}
+use Rattle.vulcedar.proofs.ResultLaws.{text-result}
 use borrow.Author.Needs.{needs}
 use Rattle.vulcedar.proofs.vulcedar_rehearse.Statement.{statement}
 use Rattle.vulcedar.proofs.vulcedar_rehearse.Tie as tie
-use Rattle.vulcedar.proofs.vulcedar_rehearse.Reads as reads
-use Rattle.vulcedar.proofs.vulcedar_rehearse.Lts as lts
-use Rattle.script.proofs.run_text.Reads as run-text-reads
-use Rattle.vulcedar.proofs.packed.Reads as packed-reads
 
--- src/lib.rt:178:9
+short : (c : tie.After-struct-known) → c .before .before .before .before .run-text .result .length ≤ 15483
+short c = run-length _ _ (c .before .before .before .before .run-text .ensures)
+
 run-text-requires : tie.Need-run-text-requires
 run-text-requires c κs = search needs
 
--- src/lib.rt:179:5
 packed-requires : tie.Need-packed-requires
 packed-requires c κs = search needs
 
--- src/lib.rt:179:36
 cast-result : tie.Need-cast-result
-cast-result c = ?
+cast-result c = let l = short c in omega arith
 
--- src/lib.rt:179:27
 mul-result : tie.Need-mul-result
-mul-result c = ?
+mul-result c = let l = short c in omega arith
 
--- src/lib.rt:179:5
 add-result : tie.Need-add-result
-add-result c = ?
+add-result c = let l = short c in omega (arith, c .before .packed .ensures)
 
--- src/lib.rt:173:1
 same-length : tie.Need-same-length
 same-length c = search needs
 
--- src/lib.rt:173:1
 returns : tie.Need-returns
-returns c = ?
+returns c = text-result _ _ _ (c .before .before .before .before .run-text .ensures) _ (c .before .packed .ensures)
 
 pub vulcedar-rehearse-spec : {M : Type 1} → statement M
 vulcedar-rehearse-spec =
