@@ -57,7 +57,7 @@ closed_input() { "$1" <&-; }
 directory() { "$1" < tests; }
 onto() { "$1" < "$2" > "$3"; }
 closed_output() { "$1" < "$2" >&-; }
-text() { printf "$2" | "$1"; }
+text() { printf -- "$2" | "$1"; }
 
 # one sentence on standard error for each refusal, number and meaning, and its number as digits on standard output
 refused() {
@@ -110,6 +110,12 @@ for rehearse in "$command" "$checked"; do
   exits 2 directory "$rehearse"
   grep -q '^rehearse: standard input: ' "$work/err"
 done
+
+# at a terminal it says what it waits for
+if command -v script > /dev/null; then
+  exits 1 timeout 60 script -qec "$command 2> $work/said" /dev/null < /dev/null
+  head -n 1 "$work/said" | grep -q '^rehearse: reads a text from standard input'
+fi
 
 # the same bytes from both, and the exit status that goes with them: a number's line alone is three bytes, a node's line nine
 same() {
