@@ -2,7 +2,8 @@
 use native.Mathlib.Omega.{arith}
 use borrow.Author.Needs.{needs}
 use Rattle.text.proofs.CallLaws.{read-malformed, ReadTold, read-formed}
-use Rattle.script.proofs.ScriptLaws.{answered, text-malformed, text-refused, table-refused, many-refused, Parts, parts, steps-whole, parts-run}
+use Rattle.script.proofs.ScriptLaws.{answered, text-malformed, text-refused}
+use Rattle.script.proofs.ReadLaws.{table-refused, many-refused, Parts, parts, steps-whole, parts-run}
 use Rattle.script.proofs.run_text.Statement.{statement}
 use Rattle.script.proofs.run_text.Tie as tie
 
