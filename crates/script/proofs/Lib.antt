@@ -2,4 +2,5 @@
 pub mod LineLaws
 pub mod SimulationLaws
 pub mod ScriptLaws
+pub mod ReadLaws
 pub mod Main

@@ -1,111 +1,169 @@
--- What is printed, test by test, and how long it is. Assumes nothing.
-use mathlib.Core.Path.{_≡_, refl, sym, _∙_, ap}
-use mathlib.Core.Bool.{true, false, cond, not, _&&_, and-false}
-use mathlib.Core.List.{List, _++_, flatten}
-use Prim.Native.Nat.{ℕ, _+_, _*_, _/_, _%_, _≤_, _<_}
-use native.Mathlib.Nat.{mul-div-cancel-left, mul-mod-right, zero-add}
+-- A text's number, test by test, what is printed and how long it is, and the two calls. Assumes nothing.
+use mathlib.Core.Path.{_≡_, sym, _∙_, ap}
+use mathlib.Core.Bool.{true, false}
+use mathlib.Core.List.{List, _++_}
+use Prim.Native.Nat.{ℕ, _+_, _*_, _/_, _≤_, _<_}
+use native.Mathlib.Nat.{mul-div-cancel-left, zero-add}
 use native.Mathlib.Omega.{arith}
-use borrow.Author.Tests.{ne-eqb, eqb-true, eqb-false, ltb-false, lt-ltb, le-ltb, lt-leb}
-use lib.Dec.{eqb, leb, ltb}
+use borrow.Author.Tests.{ne-eqb, eqb-true, eqb-false, ltb-false, lt-ltb, le-ltb}
+use lib.Dec.{eqb, ltb}
 use lib.ListN.{length, take, drop, length-append}
-use Rattle.lists.specs.Seq.{allBelow}
 use Rattle.lists.specs.Put.{Put}
 use Rattle.lists.proofs.Logic.{cases, decided}
 use Rattle.lists.proofs.PutLaws.{put-front, put-append}
+use Rattle.lists.proofs.Parts.{back-is, back-length}
 use Rattle.plan.specs.Plan.{size}
-use Rattle.plan.specs.Check.{lengthOk, checkNumber}
-use Rattle.plan.proofs.CheckLaws.{check-1}
+use Rattle.plan.specs.Check.{checkNumber}
 use Rattle.plan.proofs.Main.{check-exact}
 use Rattle.event.specs.Site.{own}
-use Rattle.retention.specs.Record.{commonTable, frameOk, tableOk, tableNumber, recordOf}
+use Rattle.retention.specs.Record.{tableNumber, recordOf}
 use Rattle.job.specs.Simulation.{Step, zeros, replay, numbersFrom, endMarks}
 use Rattle.simulation.specs.Run.{stepsOf}
-use Rattle.text.specs.Text.{lines, hasTable, bodyAt, body, planLines, stepLines, bodyFormed, wellFormed, tableBytes, planBytes, stepBytes}
-use Rattle.text.specs.Calls.{inFront, Printing, printing}
-use Rattle.text.specs.declared.Counts.{Counts}
-use Rattle.text.proofs.TextLaws.{table-at, table-lines, no-table-at, no-table-body}
-use Rattle.text.proofs.CallLaws.{no-table, front-is, front-all, table-bytes, step-bytes, steps-few, ReadTold}
-use Rattle.script.specs.Script.{numberLine, numberLines, nodeLines, simulationLines, planPrinted, tablePrinted, tableOf, printed, rehearseInto, readNumber}
-use Rattle.lists.proofs.Parts.{back-is, back-length}
+use Rattle.text.specs.Text.{body, stepLines, wellFormed, planBytes, stepBytes}
+use Rattle.text.specs.Calls.{Printing, printing}
+use Rattle.text.proofs.CallLaws.{step-bytes, steps-few}
+use Rattle.script.specs.Script.{numberLine, numberLines, nodeLines, simulationLines, tableOf, textNumber, textLines, numberOrLines, printed, rehearseInto, TextRun, textRun, refused, passed, linesInto, runTextInto}
+use Rattle.script.specs.declared.TextResult.{TextResult}
 use Rattle.script.proofs.LineLaws.{number-length, numbers-length, nodes-length}
 use Rattle.script.proofs.SimulationLaws.{RunTold, numbers-count, frames-count}
 
+-- the answer q that the code has
+pub answered : {x : TextRun} {r : TextResult} {b : List ℕ} {q : TextResult} → x ≡ textRun r b → q ≡ r → x ≡ textRun q b
+answered h e = rw e h
+
+-- the line of a number alone, or lines
+module _ (n : ℕ) (ls : List ℕ) where
+  number-alone : (n ≡ 0 → ⊥) → numberOrLines n ls ≡ numberLine n
+  unfolding numberOrLines
+  number-alone h = rw (ne-eqb n 0 h)
+
+  lines-alone : n ≡ 0 → numberOrLines n ls ≡ ls
+  unfolding numberOrLines
+  lines-alone e = rw e
+
+  -- a call with a buffer b
+  lines-refused : (b : List ℕ) {r : ℕ} → r ≡ n → (r ≡ 0 → ⊥) → linesInto n ls b ≡ textRun (refused r) b
+  unfolding linesInto
+  lines-refused b e h = rw (ne-eqb n 0 (λ z. h (e ∙ z)), e)
+
+  lines-short : (b : List ℕ) → n ≡ 0 → length b < 16384 → linesInto n ls b ≡ textRun (refused 7) b
+  unfolding linesInto
+  lines-short b e l = rw (e, lt-ltb (length b) 16384 l)
+
+  lines-passed : (b : List ℕ) {b′ : List ℕ} {w : ℕ} → n ≡ 0 → length ls ≤ 16384 → 16384 ≤ length b → Put ls b 0 b′ w → linesInto n ls b ≡ textRun (passed w) b′
+  unfolding linesInto
+  lines-passed b e f l h =
+      let g : length ls ≤ length b = omega arith in
+      rw (e, le-ltb (length b) 16384 l, h .place, h .held, zero-add, put-front ls b g)
+
+  -- what such a call tells of a buffer that is long enough
+  module _ (b : List ℕ) {b′ : List ℕ} {r : TextResult} (h : linesInto n ls b ≡ textRun r b′) (l : 16384 ≤ length b) where
+    told-refused : (r .number ≡ 0 → ⊥) → (r .number ≡ n) × (b′ ≡ b)
+    unfolding linesInto
+    told-refused f = cases (decided (eqb n 0))
+        (λ e. let q = rw (e, le-ltb (length b) 16384 l) at h in absurd (f (sym (ap (λ (x : TextRun). x .result .number) q))))
+        (λ e. let q = rw e at h in (sym (ap (λ (x : TextRun). x .result .number) q), sym (ap (λ (x : TextRun). x .out) q)))
+
+    told-passed : r .number ≡ 0 → (n ≡ 0) × (r .length ≡ length ls) × (b′ ≡ ls ++ drop (length ls) b)
+    unfolding linesInto
+    told-passed z = cases (decided (eqb n 0))
+        (λ e. let q = rw (e, le-ltb (length b) 16384 l) at h in
+        (eqb-true n 0 e, sym (ap (λ (x : TextRun). x .result .length) q), sym (ap (λ (x : TextRun). x .out) q)))
+        (λ e. let q = rw e at h in absurd (eqb-false n 0 e (ap (λ (x : TextRun). x .result .number) q ∙ z)))
+
+-- the lines of a plan
 module _ (tab p : List ℕ) (ts : List Step) where
-  pub plan-refused : (n : ℕ) → n ≡ checkNumber p → (n ≡ 0 → ⊥) → numberLine n ≡ planPrinted tab p ts
-  unfolding planPrinted
-  plan-refused n e h = rw (ne-eqb (checkNumber p) 0 (λ z. h (e ∙ z)), e)
-
-  pub plan-long : 320 < length p → numberLine 1 ≡ planPrinted tab p ts
-  unfolding lengthOk
-  plan-long l = plan-refused 1 (check-1 p (rw (lt-leb (length p) 320 l, and-false))) (λ z. omega arith)
-
-  pub plan-accepted : checkNumber p ≡ 0 → simulationLines tab p ts ≡ planPrinted tab p ts
-  unfolding planPrinted
-  plan-accepted z = rw z
-
   numbers-all : length (numberLines (numbersFrom p (own p) (zeros p (own p)) ts)) ≡ 3 * length ts
   numbers-all = numbers-length (numbersFrom p (own p) (zeros p (own p)) ts) ∙ ap (λ n. 3 * n) (numbers-count p (zeros p (own p)) ts)
 
-  pub lines-long : length (simulationLines tab p ts) ≡ 3 * length ts + 9 * size p
+  lines-long : length (simulationLines tab p ts) ≡ 3 * length ts + 9 * size p
   unfolding simulationLines
   lines-long = rw length-append (omega (arith, numbers-all, nodes-length p (recordOf p tab (endMarks p (own p) (replay p (own p) ts)))))
 
-  -- a plan's lines, with m steps
-  plan-fits : (m : ℕ) → length ts ≤ m → (0 < length (planPrinted tab p ts)) × (length (planPrinted tab p ts) ≤ 160 * 9 + 3 * m)
-  plan-fits m l = cases (decided (eqb (checkNumber p) 0))
-      (λ e. let z = eqb-true (checkNumber p) 0 e in
-      let ok = (check-exact p) .0 z in
-      rw (← plan-accepted z) (omega (arith, lines-long, ok .some, ok .few)))
-      (λ e. rw (← plan-refused (checkNumber p) refl (eqb-false (checkNumber p) 0 e)) (omega (arith, number-length (checkNumber p))))
+  -- m steps at most
+  plan-fits : checkNumber p ≡ 0 → (m : ℕ) → length ts ≤ m → (0 < length (simulationLines tab p ts)) × (length (simulationLines tab p ts) ≤ 160 * 9 + 3 * m)
+  plan-fits z m l = let ok = (check-exact p) .0 z in omega (arith, lines-long, ok .some, ok .few)
 
-  -- a table's number, or the plan's lines
-  table-refused : (n : ℕ) → n ≡ tableNumber tab → (n ≡ 0 → ⊥) → numberLine n ≡ tablePrinted tab p ts
-  unfolding tablePrinted
-  table-refused n e h = rw (ne-eqb (tableNumber tab) 0 (λ z. h (e ∙ z)), e)
-
-  table-accepted : tableNumber tab ≡ 0 → planPrinted tab p ts ≡ tablePrinted tab p ts
-  unfolding tablePrinted
-  table-accepted z = rw z
-
-  table-fits : (m : ℕ) → length ts ≤ m → (0 < length (tablePrinted tab p ts)) × (length (tablePrinted tab p ts) ≤ 160 * 9 + 3 * m)
-  table-fits m l = cases (decided (eqb (tableNumber tab) 0))
-      (λ e. rw (← table-accepted (eqb-true (tableNumber tab) 0 e)) (plan-fits m l))
-      (λ e. rw (← table-refused (tableNumber tab) refl (eqb-false (tableNumber tab) 0 e)) (omega (arith, number-length (tableNumber tab))))
-
+-- a text's number, test by test
 module _ (t : List ℕ) where
-  text-malformed : wellFormed t ≡ false → numberLine 15 ≡ printed t
-  unfolding printed
-  text-malformed h = rw h
+  pub text-malformed : wellFormed t ≡ false → 15 ≡ textNumber t
+  unfolding textNumber
+  text-malformed f = rw f
 
-  text-formed : wellFormed t ≡ true → tablePrinted (tableOf t) (planBytes t) (stepsOf (stepBytes t)) ≡ printed t
-  unfolding printed
-  text-formed h = rw h
+  module _ (f : wellFormed t ≡ true) where
+    pub text-table : (tableNumber (tableOf t) ≡ 0 → ⊥) → tableNumber (tableOf t) ≡ textNumber t
+    unfolding textNumber
+    text-table h = rw (f, ne-eqb (tableNumber (tableOf t)) 0 h)
 
-  steps-most : wellFormed t ≡ true → length (stepsOf (stepBytes t)) ≤ 32768 / 7
-  steps-most h =
-      let e : length (stepsOf (stepBytes t)) ≡ length (stepLines (body t))
-      = frames-count (stepBytes t) ∙ ap (λ n. n / 3) (step-bytes t) ∙ mul-div-cancel-left (length (stepLines (body t))) (omega arith) in
-      omega (arith, e, steps-few t h)
+    pub text-plan : tableNumber (tableOf t) ≡ 0 → checkNumber (planBytes t) ≡ textNumber t
+    unfolding textNumber
+    text-plan z = rw (f, z)
+
+  -- none fails
+  module _ (zero : textNumber t ≡ 0) where
+    passed-formed : wellFormed t ≡ true
+    passed-formed = cases (decided (wellFormed t)) (λ f. f) (λ f. absurd (omega (arith, text-malformed f)))
+
+    passed-plan : checkNumber (planBytes t) ≡ 0
+    passed-plan = cases (decided (eqb (tableNumber (tableOf t)) 0))
+        (λ e. text-plan passed-formed (eqb-true (tableNumber (tableOf t)) 0 e) ∙ zero)
+        (λ e. let h = eqb-false (tableNumber (tableOf t)) 0 e in absurd (h (text-table passed-formed h ∙ zero)))
+
+    steps-most : length (stepsOf (stepBytes t)) ≤ 32768 / 7
+    steps-most =
+        let e : length (stepsOf (stepBytes t)) ≡ length (stepLines (body t))
+        = frames-count (stepBytes t) ∙ ap (λ n. n / 3) (step-bytes t) ∙ mul-div-cancel-left (length (stepLines (body t))) (omega arith) in
+        omega (arith, e, steps-few t passed-formed)
+
+    lines-fit : (0 < length (textLines t)) × (length (textLines t) ≤ 160 * 9 + 3 * (32768 / 7))
+    unfolding textLines
+    lines-fit = plan-fits (tableOf t) (planBytes t) (stepsOf (stepBytes t)) passed-plan (32768 / 7) steps-most
 
   pub text-fits : (0 < length (printed t)) × (length (printed t) ≤ 160 * 9 + 3 * (32768 / 7))
-  text-fits = cases (decided (wellFormed t))
-      (λ e. rw (← text-formed e) (table-fits (tableOf t) (planBytes t) (stepsOf (stepBytes t)) (32768 / 7) (steps-most e)))
-      (λ e. rw (← text-malformed e) (omega (arith, number-length 15)))
+  unfolding printed
+  text-fits = cases (decided (eqb (textNumber t) 0))
+      (λ e. let z = eqb-true (textNumber t) 0 e in rw (lines-alone (textNumber t) (textLines t) z) (lines-fit z))
+      (λ e. rw (number-alone (textNumber t) (textLines t) (eqb-false (textNumber t) 0 e)) (omega (arith, number-length (textNumber t))))
 
-  pub rehearse-short : (b : List ℕ) → length b < 16384 → rehearseInto t b ≡ printing 0 b
+-- the two calls: b is the buffer before, b′ afterwards
+module _ (t b : List ℕ) where
+  pub text-refused : {r : ℕ} → r ≡ textNumber t → (r ≡ 0 → ⊥) → runTextInto t b ≡ textRun (refused r) b
+  unfolding runTextInto
+  text-refused e h = lines-refused (textNumber t) (textLines t) b e h
+
+  pub rehearse-short : length b < 16384 → rehearseInto t b ≡ printing 0 b
   unfolding rehearseInto
-  rehearse-short b l = rw (lt-ltb (length b) 16384 l)
+  rehearse-short l = rw (lt-ltb (length b) 16384 l)
 
-  pub rehearse-done : (b : List ℕ) {b′ : List ℕ} {w : ℕ} → 16384 ≤ length b → Put (printed t) b 0 b′ w → rehearseInto t b ≡ printing w b′
-  unfolding rehearseInto
-  rehearse-done b l h =
-      let f : length (printed t) ≤ length b = omega (arith, text-fits) in
-      rw (le-ltb (length b) 16384 l, h .place, h .held, zero-add, put-front (printed t) b f)
+  -- what the first told, printed by the second
+  module _ {b′ : List ℕ} {r : TextResult} (h : runTextInto t b ≡ textRun r b′) where
+    run-lines : linesInto (textNumber t) (textLines t) b ≡ textRun r b′
+    unfolding runTextInto
+    run-lines = h
 
-  pub text-without : hasTable t ≡ false →
-      printed t ≡ cond (not (leb (length t) 32768 && bodyFormed t)) (numberLine 15) (planPrinted commonTable (flatten (planLines t)) (stepsOf (flatten (stepLines t))))
-  unfolding printed tablePrinted tableNumber tableOk frameOk allBelow commonTable tableOf wellFormed planBytes stepBytes
-  text-without h = rw (h, no-table-body t h)
+    pub run-length : r .length ≤ 15483
+    unfolding linesInto
+    run-length = cases (decided (eqb (textNumber t) 0))
+        (λ e. cases (decided (ltb (length b) 16384))
+        (λ s. let q = rw (e, s) at run-lines in omega (arith, ap (λ (x : TextRun). x .result .length) q))
+        (λ s. let q = rw (e, s) at run-lines in omega (arith, ap (λ (x : TextRun). x .result .length) q, lines-fit t (eqb-true (textNumber t) 0 e))))
+        (λ e. let q = rw e at run-lines in omega (arith, ap (λ (x : TextRun). x .result .length) q))
+
+    module _ (l : 16384 ≤ length b) where
+      pub rehearse-refused : (r .number ≡ 0 → ⊥) → {b″ : List ℕ} {w : ℕ} → Put (numberLine (r .number)) b′ 0 b″ w → rehearseInto t b ≡ printing w b″
+      unfolding rehearseInto printed
+      rehearse-refused f q =
+          let told = told-refused (textNumber t) (textLines t) b run-lines l f in
+          let alone = number-alone (textNumber t) (textLines t) (λ z. f (told .0 ∙ z)) in
+          let p = rw (told .0, told .1) at q in
+          let g : length (numberLine (textNumber t)) ≤ length b = omega (arith, number-length (textNumber t)) in
+          rw (le-ltb (length b) 16384 l, alone, p .place, p .held, zero-add, put-front (numberLine (textNumber t)) b g)
+
+      pub rehearse-passed : r .number ≡ 0 → rehearseInto t b ≡ printing (r .length) b′
+      unfolding rehearseInto printed
+      rehearse-passed z =
+          let told = told-passed (textNumber t) (textLines t) b run-lines l z in
+          rw (le-ltb (length b) 16384 l, lines-alone (textNumber t) (textLines t) (told .0), told .1, told .2)
 
 -- what is printed stands within the buffer
 pub rehearse-within : (t b : List ℕ) {b′ : List ℕ} {w : ℕ} → rehearseInto t b ≡ printing w b′ → w ≤ length b
@@ -114,10 +172,10 @@ rehearse-within t b {b′} {w} h = cases (decided (ltb (length b) 16384))
     (λ e. let q = rw e at h in omega (arith, ap (λ (r : Printing). r .place) q))
     (λ e. let q = rw e at h in omega (arith, ap (λ (r : Printing). r .place) q, text-fits t, ltb-false (length b) 16384 e))
 
--- what the simulation's call told, printed
+-- what the simulation's call told, as the plan's lines
 module _ {p bs : List ℕ} {n : ℕ} {z y : List ℕ} {r : ℕ} {st ns : List ℕ} (h : RunTold p bs n z y r st ns) where
-  pub refused-put : (tab : List ℕ) {b b′ : List ℕ} {w : ℕ} → (r ≡ 0 → ⊥) → Put (numberLine r) b 0 b′ w → Put (planPrinted tab p (stepsOf bs)) b 0 b′ w
-  refused-put tab f q = rw (plan-refused tab p (stepsOf bs) r (h .number) f) at q
+  pub plan-refused : (tab b : List ℕ) → (r ≡ 0 → ⊥) → linesInto (checkNumber p) (simulationLines tab p (stepsOf bs)) b ≡ textRun (refused r) b
+  plan-refused tab b f = lines-refused (checkNumber p) (simulationLines tab p (stepsOf bs)) b (h .number) f
 
   pub state-long : length (take (n * n) (st ++ drop (n * n) z)) ≡ size p * size p
   state-long = sym (back-length (h .state-back)) ∙ rw (h .count)
@@ -129,119 +187,17 @@ module _ {p bs : List ℕ} {n : ℕ} {z y : List ℕ} {r : ℕ} {st ns : List �
     pub told-accepted : checkNumber p ≡ 0
     told-accepted = sym (h .number) ∙ zero
 
-    pub accepted-put : (tab : List ℕ) {b b′ b″ : List ℕ} {w w′ : ℕ} → Put (numberLines (take (length bs / 3) (ns ++ drop (length bs / 3) y))) b 0 b′ w →
-        Put (nodeLines p (recordOf p tab (endMarks p (own p) (take (n * n) (st ++ drop (n * n) z))))) b′ w b″ w′ → Put (planPrinted tab p (stepsOf bs)) b 0 b″ w′
+    pub plan-short : (tab b : List ℕ) → length b < 16384 → linesInto (checkNumber p) (simulationLines tab p (stepsOf bs)) b ≡ textRun (refused 7) b
+    plan-short tab b l = lines-short (checkNumber p) (simulationLines tab p (stepsOf bs)) b told-accepted l
+
+    pub plan-passed : (tab b : List ℕ) {b′ b″ : List ℕ} {w w′ : ℕ} → length bs ≤ 14043 → 16384 ≤ length b →
+        Put (numberLines (take (length bs / 3) (ns ++ drop (length bs / 3) y))) b 0 b′ w →
+        Put (nodeLines p (recordOf p tab (endMarks p (own p) (take (n * n) (st ++ drop (n * n) z))))) b′ w b″ w′ →
+        linesInto (checkNumber p) (simulationLines tab p (stepsOf bs)) b ≡ textRun (passed w′) b″
     unfolding simulationLines
-    accepted-put tab {b} q q′ =
+    plan-passed tab b few l q q′ =
         let ns-are = back-is (h .numbers-back) ∙ h .numbers told-accepted in
         let st-is = back-is (h .state-back) ∙ h .state told-accepted in
-        rw (← plan-accepted tab p (stepsOf bs) told-accepted) (put-append _ _ b 0 (rw ns-are at q) (rw st-is at q′))
-
--- the table that was read into the common one: h is its bytes in the text, r the number that the code tells
-pub record TableTold (t : List ℕ) (r : ℕ) (tab : List ℕ) : Type 0 where
-  pub number : r ≡ tableNumber (tableOf t)
-  pub same : tableNumber (tableOf t) ≡ 0 → tab ≡ tableOf t
-
-module _ (h : ℕ) (tab : List ℕ) where
-  pub read-none : h ≡ 0 → tableNumber tab ≡ readNumber h tab
-  unfolding readNumber
-  read-none e = rw e
-
-  pub read-six : h ≡ 33 → tableNumber tab ≡ readNumber h tab
-  unfolding readNumber
-  read-six e = rw e
-
-  pub read-other : (h ≡ 0 → ⊥) → (h ≡ 33 → ⊥) → 21 ≡ readNumber h tab
-  unfolding readNumber
-  read-other m n = rw (ne-eqb h 0 m, ne-eqb h 33 n)
-
-common-long : length commonTable ≡ 12
-unfolding commonTable
-common-long = refl
-
-other-length : (tab : List ℕ) → (length tab ≡ 12 → ⊥) → tableNumber tab ≡ 21
-unfolding tableNumber tableOk
-other-length tab n = rw (ne-eqb (length tab) 12 n)
-
-module _ (t : List ℕ) (h : ℕ) (e : h ≡ bodyAt t) where
-  -- no table
-  common-told : hasTable t ≡ false → TableTold t (readNumber h (inFront (tableBytes t) commonTable)) (inFront (tableBytes t) commonTable)
-  unfolding tableOf
-  common-told f =
-      let z : h ≡ 0 = e ∙ no-table-at t f in
-      let x = sym (no-table t e z commonTable) in
-      record { number = sym (read-none h _ z) ∙ rw (x, f); same = λ u. rw f x }
-
-  -- a table of six lines, and another
-  own-told : hasTable t ≡ true → TableTold t (readNumber h (inFront (tableBytes t) commonTable)) (inFront (tableBytes t) commonTable)
-  unfolding tableOf
-  own-told f =
-      let l : length (tableBytes t) ≡ 2 * length (lines 2 t) = table-bytes t ∙ rw (table-lines t f) in
-      let a = table-at t f in
-      cases (decided (eqb h 33))
-      (λ y. let m : length (tableBytes t) ≡ 12 = omega (arith, eqb-true h 33 y) in
-      let x : inFront (tableBytes t) commonTable ≡ tableBytes t = front-all (tableBytes t) commonTable (m ∙ sym common-long) in
-      record { number = sym (read-six h _ (eqb-true h 33 y)) ∙ rw (x, f); same = λ u. rw f x })
-      (λ y. let n = other-length (tableBytes t) (λ z. eqb-false h 33 y (omega arith)) in
-      record { number = sym (read-other h _ (λ z. omega arith) (eqb-false h 33 y)) ∙ rw (f, n); same = λ u. absurd (let v = rw f at u in omega arith) })
-
-  pub table-told : TableTold t (readNumber h (inFront (tableBytes t) commonTable)) (inFront (tableBytes t) commonTable)
-  table-told = cases (decided (hasTable t)) own-told common-told
-
--- the parts of two buffers in which the plan's bytes and the steps' stand
-pub record Parts (t tab : List ℕ) (c : Counts) (y z : List ℕ) : Type 0 where
-  pub plan-length : 2 * c .plan ≡ length (take (2 * c .plan) y)
-  pub steps-length : 3 * c .steps ≡ length (take (3 * c .steps) z)
-  pub plan-few : 2 * c .plan ≤ 320
-  pub steps-few : 3 * c .steps ≤ 14043
-  pub right : tableNumber tab ≡ 0
-  pub print : planPrinted tab (take (2 * c .plan) y) (stepsOf (take (3 * c .steps) z)) ≡ printed t
-
-module _ {t tab : List ℕ} {c : Counts} {y z : List ℕ} (h : Parts t tab c y z) where
-  pub steps-whole : length (take (3 * c .steps) z) % 3 ≡ 0
-  steps-whole = rw (← h .steps-length) (mul-mod-right 3 (c .steps))
-
-  pub parts-put : {b b′ : List ℕ} {w : ℕ} → Put (planPrinted tab (take (2 * c .plan) y) (stepsOf (take (3 * c .steps) z))) b 0 b′ w → Put (printed t) b 0 b′ w
-  parts-put q = rw (h .print) at q
-
--- what the reader told: x, y and z are the buffers before, x the common table; r is the table's number
-module _ {t x y z : List ℕ} {c : Counts} {x′ y′ z′ : List ℕ} (h : ReadTold t x y z c x′ y′ z′) (lx : x ≡ commonTable) {r : ℕ} (e : r ≡ readNumber (c .head) x′) where
-  table : TableTold t r x′
-  table =
-      let f : x′ ≡ inFront (tableBytes t) commonTable = h .table ∙ rw lx in
-      rw (e, f) (table-told t (c .head) (h .head))
-
-  pub table-put : {b b′ : List ℕ} {w : ℕ} → (r ≡ 0 → ⊥) → Put (numberLine r) b 0 b′ w → Put (printed t) b 0 b′ w
-  table-put f q = rw (table-refused (tableOf t) (planBytes t) (stepsOf (stepBytes t)) r (table .number) f ∙ text-formed t (h .formed)) at q
-
-  module _ (zero : r ≡ 0) where
-    right : tableNumber (tableOf t) ≡ 0
-    right = sym (table .number) ∙ zero
-
-    formed : planPrinted (tableOf t) (planBytes t) (stepsOf (stepBytes t)) ≡ printed t
-    formed = table-accepted (tableOf t) (planBytes t) (stepsOf (stepBytes t)) right ∙ text-formed t (h .formed)
-
-    pub many-put : {b b′ : List ℕ} {w : ℕ} → 160 < c .plan → Put (numberLine 1) b 0 b′ w → Put (printed t) b 0 b′ w
-    many-put l q = rw (plan-long (tableOf t) (planBytes t) (stepsOf (stepBytes t)) (omega (arith, h .plan-long)) ∙ formed) at q
-
-    module _ (few : c .plan ≤ 160) (ly : 320 ≡ length y) (lz : 14043 ≡ length z) where
-      plan-is : take (2 * c .plan) y′ ≡ planBytes t
-      plan-is = ap (take (2 * c .plan)) (h .plan) ∙ front-is (planBytes t) y (2 * c .plan) (h .plan-long) (omega arith)
-
-      steps-are : take (3 * c .steps) z′ ≡ stepBytes t
-      steps-are = ap (take (3 * c .steps)) (h .steps) ∙ front-is (stepBytes t) z (3 * c .steps) (h .steps-long) (omega (arith, h .few))
-
-      pub parts : Parts t x′ c y′ z′
-      parts =
-          record {
-            plan-length = sym (ap length plan-is ∙ h .plan-long);
-            steps-length = sym (ap length steps-are ∙ h .steps-long);
-            plan-few = omega arith;
-            steps-few = omega (arith, h .few);
-            right = rw (table .same right) right;
-            print = rw (plan-is, steps-are, table .same right) formed;
-          }
-
--- the line of a malformed text
-pub malformed-put : (t : List ℕ) {b b′ : List ℕ} {w : ℕ} → wellFormed t ≡ false → Put (numberLine 15) b 0 b′ w → Put (printed t) b 0 b′ w
-malformed-put t h q = rw (text-malformed t h) at q
+        let short = plan-fits tab p (stepsOf bs) told-accepted 4681 (omega (arith, frames-count bs)) in
+        lines-passed (checkNumber p) (simulationLines tab p (stepsOf bs)) b told-accepted (omega (arith, short)) l
+        (put-append _ _ b 0 (rw ns-are at q) (rw st-is at q′))

@@ -18,7 +18,7 @@ use Rattle.plan.proofs.Main.{check-exact}
 use Rattle.event.specs.Site.{own}
 use Rattle.retention.specs.Record.{tableNumber, recordOf}
 use Rattle.job.specs.Simulation.{Step, simulate, stateFits, zeros, replay, numbersFrom, endMarks}
-use Rattle.script.specs.Script.{Zeros}
+use Rattle.script.specs.Script.{AllZero}
 use Rattle.lists.proofs.Parts.{part-length, Back}
 use Rattle.simulation.specs.Run.{Recorded, recorded, recordNumber, recordByNumber, recordByInto, stepsOf, stepsFrom, Ran, ran, runNumber, runOf}
 
@@ -56,7 +56,7 @@ module _ (p tab st : List ℕ) (right : tableNumber tab ≡ 0) (ok : checkNumber
         classes-back = record { long = ap length b ∙ table-length _ (size p) ∙ sym count };
       }
 
-pub zeros-are : (m : ℕ) → Zeros m (replicate m 0)
+pub zeros-are : (m : ℕ) → AllZero m (replicate m 0)
 zeros-are m = record { long = length-replicate m 0; front = λ n l. fresh-zeros m n n refl l }
 
 -- a list of steps from a state of zeros, whatever the plan: its buffers are the fronts of z and y
@@ -73,7 +73,7 @@ module _ (p : List ℕ) (few : length p ≤ 320) (n : ℕ) (count : n ≡ size p
   unfolding size
   cells-few = let l : n ≤ 160 = omega (arith, count) in le-trans (mul-le-mul-left n l) (mul-le-mul-right 160 l)
 
-  module _ (z : List ℕ) (hz : Zeros 25600 z) (bs y : List ℕ) (hy : 4681 ≡ length y) (short : length bs ≤ 14043) (whole : length bs % 3 ≡ 0) where
+  module _ (z : List ℕ) (hz : AllZero 25600 z) (bs y : List ℕ) (hy : 4681 ≡ length y) (short : length bs ≤ 14043) (whole : length bs % 3 ≡ 0) where
     zero-state : take (n * n) z ≡ zeros p (own p)
     unfolding zeros own
     zero-state = hz .front (n * n) cells-few ∙ rw count

@@ -1,5 +1,5 @@
 // A whole simulation as a function from text to text: reads a table of classes, a plan and steps, runs them from zeros and prints the numbers and the record.
-// What it prints is specs/Script.antt. No public function has a `requires`.
+// A text's number and what it prints are specs/Script.antt. No public function has a `requires`.
 ghost use mathlib.Core.Path.{_≡_};
 ghost use Prim.Native.Nat.{_+_, _*_, _%_, _≤_};
 ghost use lib.ListN.{length};
@@ -11,7 +11,19 @@ ghost use Rattle.retention.specs.Record.{tableNumber, recordOf};
 ghost use Rattle.job.specs.Simulation.{endMarks};
 ghost use Rattle.simulation.specs.Run.{stepsOf};
 ghost use Rattle.text.specs.Calls.{printing};
-ghost use Rattle.script.specs.Script.{numberLine, nodeLine, numberLines, nodeLines, planPrinted, rehearseInto, readNumber, Zeros};
+ghost use Rattle.script.specs.Script.{numberLine, nodeLine, numberLines, nodeLines, simulationLines, rehearseInto, textRun, refused, linesInto, runTextInto, readNumber, AllZero};
+
+// What a text gives: its number, and the length of what it printed, 0 where it is refused.
+pub struct TextResult {
+    pub number: u8,
+    pub length: usize,
+}
+
+fn refused(number: u8) -> TextResult
+    ensures { λ r. ⌜ r ≡ refused number ⌝ }
+{
+    TextResult { number, length: 0 }
+}
 
 // The line of a number.
 fn put_number(number: u8, out: &mut [u8], at: usize) -> usize
@@ -88,7 +100,7 @@ fn put_record(plan: &[u8], tab: &[u8], state: &[u8], out: &mut [u8], at: usize) 
 
 // A state of zeros, large enough for every plan.
 fn fresh_state() -> [u8; 25600]
-    ensures { λ r. ⌜ Zeros 25600 r ⌝ }
+    ensures { λ r. ⌜ AllZero 25600 r ⌝ }
 {
     [0; 25600]
 }
@@ -100,13 +112,12 @@ fn number_buffer() -> [u8; 4681]
     [0; 4681]
 }
 
-// What is printed for a plan and steps in frames of three bytes, by a table.
-fn put_simulation(plan: &[u8], tab: &[u8], steps: &[u8], out: &mut [u8]) -> usize
+// A plan and steps in frames of three bytes, by a table: the plan's number, 7 where `out` is too short, or the lines at its front.
+fn run_plan(plan: &[u8], tab: &[u8], steps: &[u8], out: &mut [u8]) -> TextResult
     requires { ⌜ tableNumber (now tab) ≡ 0 ⌝ }
     requires { ⌜ length (now plan) ≤ 320 ⌝ }
     requires { ⌜ (length (now steps) ≤ 14043) × (length (now steps) % 3 ≡ 0) ⌝ }
-    requires { ⌜ 16384 ≤ length (now out) ⌝ }
-    ensures { λ r. ⌜ Put (planPrinted (now (tab .entry)) (now (plan .entry)) (stepsOf (now (steps .entry)))) (now (out .entry)) 0 (now (out .exit)) r ⌝ }
+    ensures { λ r. ⌜ linesInto (checkNumber (now (plan .entry))) (simulationLines (now (tab .entry)) (now (plan .entry)) (stepsOf (now (steps .entry)))) (now (out .entry)) ≡ textRun r (now (out .exit)) ⌝ }
 {
     let n = plan::node_count(plan);
     let cells = n * n;
@@ -115,10 +126,14 @@ fn put_simulation(plan: &[u8], tab: &[u8], steps: &[u8], out: &mut [u8]) -> usiz
     let mut numbers = number_buffer();
     let number = simulation::run(plan, steps, &mut state[..cells], &mut numbers[..m]);
     if number != 0 {
-        return put_number(number, out, 0);
+        return refused(number);
+    }
+    if out.len() < 16384 {
+        return refused(7);
     }
     let w = put_numbers(&numbers[..m], out);
-    put_record(plan, tab, &state[..cells], out, w)
+    let length = put_record(plan, tab, &state[..cells], out, w);
+    TextResult { number: 0, length }
 }
 
 // Room for the plan's bytes, and for those of as many steps as fit into a text.
@@ -147,30 +162,43 @@ fn table_number(head: usize, tab: &[u8]) -> u8
     retention::check_table(tab)
 }
 
-// Prints what a text gives at the front of `out` and answers its length; where `out` is shorter than 16,384 bytes, leaves it and answers 0.
+// Runs a text: its number, 15, 21 or 1 to 6, then 7 where `out` is shorter than 16,384 bytes; these leave `out`. On 0 its lines stand at the front
+// of `out`.
+pub fn run_text(text: &[u8], out: &mut [u8]) -> TextResult
+    ensures { λ r. ⌜ runTextInto (now (text .entry)) (now (out .entry)) ≡ textRun r (now (out .exit)) ⌝ }
+{
+    let mut tab = retention::common_table();
+    let mut plan = plan_buffer();
+    let mut steps = step_buffer();
+    let counts = text::read(text, &mut tab, &mut plan, &mut steps);
+    if !counts.ok {
+        return refused(15);
+    }
+    let bad = table_number(counts.head, &tab);
+    if bad != 0 {
+        return refused(bad);
+    }
+    let n = counts.plan;
+    let m = counts.steps;
+    if 160 < n {
+        return refused(1);
+    }
+    let a = 2 * n;
+    let b = 3 * m;
+    run_plan(&plan[..a], &tab, &steps[..b], out)
+}
+
+// Prints what a text gives at the front of `out`, a refused text's number alone, and answers its length; where `out` is shorter than 16,384 bytes,
+// leaves it and answers 0.
 pub fn rehearse(text: &[u8], out: &mut [u8]) -> usize
     ensures { λ r. ⌜ rehearseInto (now (text .entry)) (now (out .entry)) ≡ printing r (now (out .exit)) ⌝ }
 {
     if out.len() < 16384 {
         return 0;
     }
-    let mut tab = retention::common_table();
-    let mut plan = plan_buffer();
-    let mut steps = step_buffer();
-    let counts = text::read(text, &mut tab, &mut plan, &mut steps);
-    if !counts.ok {
-        return put_number(15, out, 0);
+    let r = run_text(text, out);
+    if r.number != 0 {
+        return put_number(r.number, out, 0);
     }
-    let bad = table_number(counts.head, &tab);
-    if bad != 0 {
-        return put_number(bad, out, 0);
-    }
-    let n = counts.plan;
-    let m = counts.steps;
-    if 160 < n {
-        return put_number(1, out, 0);
-    }
-    let a = 2 * n;
-    let b = 3 * m;
-    put_simulation(&plan[..a], &tab, &steps[..b], out)
+    r.length
 }

@@ -17,7 +17,7 @@ linesWithin (suc n) k t = cond (isLine k t) (lineBytes k t ∷ linesWithin n k (
 unfoldable pub lines : ℕ → List ℕ → List (List ℕ)
 lines k t = linesWithin (length t) k t
 
--- t begins with a line of two signs c: `==`, where c is 61, or `--`, where it is 45
+-- J1, J4: t begins with a line of two signs c: `==`, where c is 61, or `--`, where it is 45
 unfoldable pub isBar : ℕ → List ℕ → Bool
 isBar c t = eqb (getD t 0 0) c && eqb (getD t 1 0) c && eqb (getD t 2 0) 10
 
@@ -28,14 +28,14 @@ hasTable t = isBar 61 (drop (5 * length (lines 2 t)) t)
 unfoldable pub tableLines : List ℕ → List (List ℕ)
 tableLines t = cond (hasTable t) (lines 2 t) []
 
--- where the text behind the table begins; without a table it is the whole text
+-- J4: where the text behind the table begins; without a table it is the whole text
 unfoldable pub bodyAt : List ℕ → ℕ
 bodyAt t = cond (hasTable t) (5 * length (lines 2 t) + 3) 0
 
 unfoldable pub body : List ℕ → List ℕ
 body t = drop (bodyAt t) t
 
--- of a text b behind the table: the plan's nodes, the line `--` behind them, and the steps behind that line
+-- J1: of a text b behind the table: the plan's nodes, the line `--` behind them, and the steps behind that line
 unfoldable pub planLines : List ℕ → List (List ℕ)
 planLines b = lines 2 b
 
@@ -56,7 +56,7 @@ bodyFormed b = isBar 45 (barText b) && eqb (length (stepText b)) (7 * length (st
 unfoldable pub wellFormed : List ℕ → Bool
 wellFormed t = leb (length t) 32768 && bodyFormed (body t)
 
--- the bytes of the table, of the plan and of the steps
+-- J1, J4: the bytes of the table, of the plan and of the steps
 unfoldable pub tableBytes : List ℕ → List ℕ
 tableBytes t = flatten (tableLines t)
 
@@ -80,7 +80,7 @@ textOf h ps ss = headOf h ++ bodyOf ps ss
 unfoldable pub tableIn : List ℕ → Option (List (List ℕ))
 tableIn t = cond (hasTable t) (some (lines 2 t)) none
 
--- lines of k bytes each
+-- J1: lines of k bytes each
 unfoldable pub isBytes : ℕ → List ℕ → Bool
 isBytes k bs = eqb (length bs) k && all (λ b. ltb b 256) bs
 
@@ -91,7 +91,7 @@ unfoldable pub isHead : Option (List (List ℕ)) → Bool
 isHead none = true
 isHead (some hs) = areLines 2 hs
 
--- MAIN CLAIM. A text is well-formed if and only if it is the text of some table lines, or of none, of some plan lines and of some step lines,
+-- MAIN CLAIM (J1, J2, J4). A text is well-formed if and only if it is the text of some table lines, or of none, of some plan lines and of some step lines,
 -- and not too long; these lines are what is read.
 pub record TextExact : Type 0 where
   pub written : (t : List ℕ) → wellFormed t ≡ true →

@@ -1,7 +1,7 @@
--- The guard writer's answer and a ruling, as results. Assumes nothing.
+-- The guard writer's answer, a ruling and a text's answer, as results. Assumes nothing.
 use mathlib.Core.Path.{_≡_, sym, ap, _∙_}
 use mathlib.Core.List.{List}
-use Prim.Native.Nat.{ℕ, _*_, _≤_}
+use Prim.Native.Nat.{ℕ, _+_, _*_, _≤_}
 use native.Mathlib.Omega.{arith}
 use Rattle.event.specs.Event.{eventOf}
 use Rattle.writer.specs.Written.{writtenNumber, writtenLength, filled, writeOf}
@@ -12,7 +12,9 @@ use Rattle.writer.proofs.WriteLaws.{write-done}
 use Rattle.guard.proofs.Short.{guard-short}
 use Rattle.central.specs.Rule.{Ruled, ruled}
 use Rattle.central.specs.declared.Ruling.{Ruling}
-use Rattle.vulcedar.specs.Result.{result, ofWritten, ofRuling}
+use Rattle.script.specs.Script.{TextRun, textRun}
+use Rattle.script.specs.declared.TextResult.{TextResult}
+use Rattle.vulcedar.specs.Result.{result, ofWritten, ofRuling, ofText}
 
 module _ (p : List ℕ) (code node : ℕ) (b b′ : List ℕ) (w : Written) (h : writeOf p code node b ≡ filled b′ w) where
   pub done-short : (g : WrittenGuard) → w ≡ Done g → g .length ≤ 290
@@ -34,3 +36,10 @@ module _ (p : List ℕ) (code node : ℕ) (b b′ : List ℕ) (w : Written) (h :
 -- a ruling's result, and the bytes beside it
 pub ruling-result : (s : Ruled) (m k : List ℕ) (w : Ruling) → s ≡ ruled m k w → (r : ℕ) → r ≡ ofRuling w → (r ≡ ofRuling (s .ruling)) × ((m ≡ s .marks) × (k ≡ s .notes))
 ruling-result s m k w h r e = (e ∙ sym (ap (λ x. ofRuling (x .ruling)) h), (sym (ap (λ x. x .marks) h), sym (ap (λ x. x .notes) h)))
+
+-- a text's result, and the buffer beside it
+pub text-result : (s : TextRun) (b : List ℕ) (r : TextResult) → s ≡ textRun r b → (q : ℕ) → q ≡ result (r .number) 0 0 → (q + 65536 * r .length ≡ ofText (s .result)) × (b ≡ s .out)
+unfolding ofText
+text-result s b r h q e =
+    let z : q + 65536 * r .length ≡ result (r .number) 0 (r .length) = omega arith in
+    (z ∙ sym (ap (λ x. ofText (x .result)) h), sym (ap (λ x. x .out) h))

@@ -8,6 +8,7 @@ use Rattle.site.specs.declared.Verdict.{Verdict}
 use Rattle.site.specs.Verdict.{reportOf}
 use Rattle.central.specs.Rule.{rulingNumber, rulingValue}
 use Rattle.central.specs.declared.Ruling.{Ruling}
+use Rattle.script.specs.declared.TextResult.{TextResult}
 
 -- K1: the number in bits 0 to 7, the event's site in bits 8 to 15, a value in bits 16 to 31
 abbrev pub result : ℕ → ℕ → ℕ → ℕ
@@ -31,3 +32,7 @@ ofVerdict v = ofReport (reportOf v)
 -- K2: whether the event is allowed is the value
 unfoldable pub ofRuling : Ruling → ℕ
 ofRuling r = result (rulingNumber r) 0 (rulingValue r)
+
+-- K4: the length printed is the value
+unfoldable pub ofText : TextResult → ℕ
+ofText r = result (r .number) 0 (r .length)

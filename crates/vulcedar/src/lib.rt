@@ -11,7 +11,8 @@ ghost use Rattle.site.specs.Step.{stepOf, hearOf};
 ghost use Rattle.central.specs.Rule.{ruleOf};
 ghost use Rattle.pass.specs.Pass.{passInto};
 ghost use Rattle.simulation.specs.Run.{simulateOf, recordByInto, recordInto};
-ghost use Rattle.vulcedar.specs.Result.{result, ofWritten, ofNamed, ofVerdict, ofRuling};
+ghost use Rattle.script.specs.Script.{runTextInto};
+ghost use Rattle.vulcedar.specs.Result.{result, ofWritten, ofNamed, ofVerdict, ofRuling, ofText};
 
 fn packed(number: u8, site: u8) -> u32
     ensures { λ r. ⌜ r ≡ result number site 0 ⌝ }
@@ -160,4 +161,13 @@ pub extern "C" fn vulcedar_record_by(
     ensures { λ r. ⌜ now (classes .exit) ≡ recordByInto (now (plan .entry)) (now (tab .entry)) (now (state .entry)) (now (marks .entry)) (now (classes .entry)) .classes ⌝ }
 {
     packed(simulation::record_by(plan, tab, state, marks, classes), 0)
+}
+
+#[no_mangle]
+pub extern "C" fn vulcedar_rehearse(text: &[u8], out: &mut [u8]) -> u32
+    ensures { λ r. ⌜ r ≡ ofText (runTextInto (now (text .entry)) (now (out .entry)) .result) ⌝ }
+    ensures { λ r. ⌜ now (out .exit) ≡ runTextInto (now (text .entry)) (now (out .entry)) .out ⌝ }
+{
+    let r = script::run_text(text, out);
+    packed(r.number, 0) + 65536 * (r.length as u32)
 }

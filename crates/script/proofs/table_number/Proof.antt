@@ -1,7 +1,7 @@
 -- No table, or a table of six lines: its bytes are tested. Assumes nothing.
 use mathlib.Core.Path.{_∙_}
 use borrow.Author.Needs.{needs}
-use Rattle.script.proofs.ScriptLaws.{read-none, read-other, read-six}
+use Rattle.script.proofs.ReadLaws.{read-none, read-other, read-six}
 use Rattle.script.proofs.table_number.Statement.{statement}
 use Rattle.script.proofs.table_number.Tie as tie
 
