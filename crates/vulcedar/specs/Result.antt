@@ -2,7 +2,7 @@
 use Prim.Native.Nat.{ℕ, _+_, _*_}
 use Rattle.guard.specs.Rule.{Named}
 use Rattle.writer.specs.declared.Written.{Written}
-use Rattle.writer.specs.Written.{writtenNumber, writtenLength}
+use Rattle.writer.specs.Written.{writtenNumber, writtenRule, writtenLength}
 use Rattle.site.specs.Verdict.{verdictNumber, verdictSite, verdictRule}
 use Rattle.site.specs.declared.Verdict.{Verdict}
 use Rattle.central.specs.Rule.{rulingNumber}
@@ -13,9 +13,9 @@ use Rattle.central.specs.declared.Ruling.the-variants as ruling
 abbrev pub result : ℕ → ℕ → ℕ → ℕ
 result n q v = n + 256 * q + 65536 * v
 
--- K2: the guard's length is the value
+-- K2: the guard's length is the value; its rule stands where there is no site
 unfoldable pub ofWritten : Written → ℕ
-ofWritten w = result (writtenNumber w) 0 (writtenLength w)
+ofWritten w = result (writtenNumber w) (writtenRule w) (writtenLength w)
 
 -- K2: the rule is the value
 unfoldable pub ofNamed : Named → ℕ

@@ -61,7 +61,7 @@ pub extern "C" fn vulcedar_guard(plan: &[u8], code: u32, node: u32, buf: &mut [u
 {
     let w = writer::write_guard(plan, code, node, buf);
     match w {
-        writer::Written::Done(g) => 65536 * (g.length as u32),
+        writer::Written::Done(g) => packed(0, g.rule) + 65536 * (g.length as u32),
         writer::Written::Refused(n) => packed(n, 0),
     }
 }
