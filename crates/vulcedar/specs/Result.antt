@@ -9,6 +9,10 @@ use Rattle.central.specs.Rule.{rulingNumber}
 use Rattle.central.specs.declared.Ruling.{Ruling}
 use Rattle.central.specs.declared.Ruling.the-variants as ruling
 
+-- K4: 1.0.0, as 65536 times its first number, 256 times its second, and its third
+unfoldable pub version : ℕ
+version = 65536 * 1 + 256 * 0 + 0
+
 -- K1: the number in bits 0 to 7, the event's site in bits 8 to 15, a value in bits 16 to 31
 abbrev pub result : ℕ → ℕ → ℕ → ℕ
 result n q v = n + 256 * q + 65536 * v
@@ -31,5 +35,6 @@ rulingValue ruling.Allowed = 1
 rulingValue ruling.Forbidden = 0
 rulingValue (ruling.Refused n) = 0
 
+-- K1, K2: a ruling's number and value
 unfoldable pub ofRuling : Ruling → ℕ
 ofRuling r = result (rulingNumber r) 0 (rulingValue r)

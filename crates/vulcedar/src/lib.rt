@@ -10,8 +10,10 @@ ghost use Rattle.writer.specs.Written.{writeOf};
 ghost use Rattle.site.specs.Step.{stepOf, hearOf};
 ghost use Rattle.central.specs.Rule.{ruleOf};
 ghost use Rattle.pass.specs.Pass.{passInto};
+ghost use Rattle.retention.specs.Record.{tableNumber};
+ghost use Rattle.pass_record.specs.PassRecord.{passRecordInto};
 ghost use Rattle.simulation.specs.Run.{simulateOf, recordByInto, recordInto};
-ghost use Rattle.vulcedar.specs.Result.{result, ofWritten, ofNamed, ofVerdict, ofRuling};
+ghost use Rattle.vulcedar.specs.Result.{version, result, ofWritten, ofNamed, ofVerdict, ofRuling};
 
 fn wide32(x: u8) -> u32
     ensures { λ r. ⌜ r ≡ x ⌝ }
@@ -29,6 +31,13 @@ fn with_rule(number: u8, site: u8, rule: u8) -> u32
     ensures { λ r. ⌜ r ≡ result number site rule ⌝ }
 {
     packed(number, site) + 65536 * wide32(rule)
+}
+
+#[no_mangle]
+pub extern "C" fn vulcedar_version() -> u32
+    ensures { λ r. ⌜ r ≡ version ⌝ }
+{
+    65536
 }
 
 #[no_mangle]
@@ -167,4 +176,27 @@ pub extern "C" fn vulcedar_record_by(
     ensures { λ r. ⌜ now (classes .exit) ≡ recordByInto (now (plan .entry)) (now (tab .entry)) (now (state .entry)) (now (marks .entry)) (now (classes .entry)) .classes ⌝ }
 {
     packed(simulation::record_by(plan, tab, state, marks, classes), 0)
+}
+
+#[no_mangle]
+pub extern "C" fn vulcedar_check_table(table: &[u8]) -> u32
+    ensures { λ r. ⌜ r ≡ result (tableNumber (now (table .entry))) 0 0 ⌝ }
+{
+    packed(retention::check_table(table), 0)
+}
+
+#[no_mangle]
+pub extern "C" fn vulcedar_pass_record(
+    plan: &[u8],
+    table: &[u8],
+    answers: &[u8],
+    marks: &mut [u8],
+    classes: &mut [u8],
+) -> u32
+    ensures { λ r. ⌜ r ≡ result (passRecordInto (now (plan .entry)) (now (table .entry)) (now (answers .entry)) (now (marks .entry)) (now (classes .entry)) .number) 0 0 ⌝ }
+    ensures { λ r. ⌜ now (marks .exit) ≡ passRecordInto (now (plan .entry)) (now (table .entry)) (now (answers .entry)) (now (marks .entry)) (now (classes .entry)) .marks ⌝ }
+    ensures { λ r. ⌜ now (classes .exit) ≡ passRecordInto (now (plan .entry)) (now (table .entry)) (now (answers .entry)) (now (marks .entry)) (now (classes .entry)) .classes ⌝ }
+{
+    let number = pass_record::pass_record(plan, table, answers, marks, classes);
+    packed(number, 0)
 }
