@@ -1,5 +1,6 @@
 // The calls by their letters, through the functions that C programs call; C has no list of steps and no text.
 use crate::item;
+ghost use Prim.Native.Nat.{_≤_};
 ghost use Rattle.cases.specs.Table.{Begins};
 
 // How many bytes a text gives to print, as a value: at most 15,483 (text-fits, crates/script/proofs/ScriptLaws.antt), so nothing is cut.
@@ -7,8 +8,24 @@ fn printed(n: usize) -> u32 {
     65536 * ((n % 65536) as u32)
 }
 
-// The call of the line at a place: check, guard, step, hear, event or message, central rule, pass, record, list of steps, rewriting, text.
-// Its result has the number in the lowest byte and the value, where there is one, from bit 16 on.
+fn least(m: usize, n: usize) -> usize
+    ensures { λ r. ⌜ r ≤ n ⌝ }
+{
+    if m < n { m } else { n }
+}
+
+// The record by a table, or the pass's record: so many of the handed bytes are the table, the others the state or the answers.
+fn by_table(letter: u8, long: usize, plan: &[u8], c: &[u8], a: &mut [u8], b: &mut [u8]) -> u32 {
+    let k = least(long, c.len());
+    if letter == b'B' {
+        return vulcedar::vulcedar_record_by(plan, &c[..k], &c[k..], a, b);
+    }
+    vulcedar::vulcedar_pass_record(plan, &c[..k], &c[k..], a, b)
+}
+
+// The call of the line at a place: version, check, check that writes depths, check of a table, guard, rule, step, hear, event or message,
+// central rule, pass, record, pass's record and record by a table, list of steps, rewriting, text. Its result has the number in the lowest
+// byte, then a byte for a site or a guard's rule, and the value, where there is one, from bit 16 on.
 pub(crate) fn call(
     text: &[u8],
     line: usize,
@@ -21,15 +38,21 @@ pub(crate) fn call(
 {
     let code = item::wide(text, line + 2);
     let node = item::wide(text, line + 7);
-    match plan::byte_at(text, line) {
+    let letter = plan::byte_at(text, line);
+    match letter {
+        b'V' => vulcedar::vulcedar_version(),
         b'K' => vulcedar::vulcedar_check(plan),
+        b'D' => vulcedar::vulcedar_check_depths(plan, a),
+        b'M' => vulcedar::vulcedar_check_table(c),
         b'G' => vulcedar::vulcedar_guard(plan, code, node, a),
+        b'Q' => vulcedar::vulcedar_rule(plan, code, node),
         b'S' => vulcedar::vulcedar_step(plan, code, node, a),
         b'H' => vulcedar::vulcedar_hear(plan, code, node, a),
         b'E' => vulcedar::vulcedar_simulate(plan, code, node, item::wide(text, line + 12), a),
         b'C' => vulcedar::vulcedar_central(plan, code, node, a, b),
         b'P' => vulcedar::vulcedar_pass(plan, c, a),
         b'R' => vulcedar::vulcedar_record(plan, c, a, b),
+        b'A'..=b'B' => by_table(letter, code as usize, plan, c, a, b),
         b'L' => simulation::run(plan, c, a, b) as u32,
         b'W' => vulcedar::vulcedar_rewrite(plan, a),
         _ => printed(script::rehearse(c, a)),

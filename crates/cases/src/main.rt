@@ -1,13 +1,13 @@
-// Tries the library from outside by a table, standard input, and prints a line a case: its label, the number answered, the value in
-// brackets if there is one, and `left` or the lent bytes up to the last one that changed. The file stdin beside src/ has the limits
-// and every refusal; the file stdout says what docs/RULES.md demands. Numbers in the table are hexadecimal, and a blank counts as 0.
+// Tries the library from outside by a table, standard input, and prints a line a case: its label, the number answered, the site, the value
+// in brackets and the rule if there is one, and `left` or the lent bytes up to the last one that changed. The file stdin beside src/ has the
+// limits and every refusal; the file stdout says what docs/RULES.md demands. Numbers in the table are hexadecimal, and a blank counts as 0.
 //
 //   # a heading, printed as it is
 //   p 0140 0a 02ff..    the plan: how many bytes; how many of those given at the line's end are repeated up to there; bytes given
 //   p         02ff..    as many bytes as are given
 //   a, b                the same for the bytes lent; c for the bytes handed over
 //   c"        01ff/--/  bytes as text, `/` for a line feed
-//   G 0003 0002 0000 label    a call, by its letter (calls.rt), with code, node and site
+//   G 0003 0002 0000 label    a call, by its letter (calls.rt), with code, node and site; for A and B the code is the length of the table
 mod calls;
 mod item;
 mod say;

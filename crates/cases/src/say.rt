@@ -26,19 +26,50 @@ pub(crate) fn heading(text: &[u8], line: usize) {
     put(b'\n');
 }
 
-// A case's label, and its result: the number in the lowest byte, and the value from bit 16 on if there is one. A step's, its rule, is left out.
+fn rule(b: u32) {
+    io::write_all(STDOUT_FILENO, b" rule ");
+    io::print_hex(STDOUT_FILENO, b as u64, 2);
+}
+
+// A site's number.
+fn site(q: u32) {
+    io::write_all(STDOUT_FILENO, b" site ");
+    io::print_decimal(STDOUT_FILENO, q as u64);
+}
+
+// A value in brackets.
+fn value(v: u32) {
+    io::write_all(STDOUT_FILENO, b" (");
+    io::print_decimal(STDOUT_FILENO, v as u64);
+    put(b')');
+}
+
+// What goes with a call's number: a middle byte and a value, 0 where there is none. A step's are its site and rule, a guard's its rule and length.
+fn beside(letter: u8, number: u32, middle: u32, v: u32) {
+    let event = letter == b'S' || letter == b'E';
+    if event && (number == 10 || number == 11 || v != 0) {
+        site(middle);
+    }
+    if v == 0 {
+        return;
+    }
+    if event || letter == b'Q' {
+        rule(v);
+        return;
+    }
+    value(v);
+    if letter == b'G' {
+        rule(middle);
+    }
+}
+
+// A case's label, and its result: the number in the lowest byte, a site or a rule in the next, and the value from bit 16 on.
 pub(crate) fn answer(text: &[u8], line: usize, result: u32) {
     words(text, line, 17);
     put(b' ');
     io::print_decimal(STDOUT_FILENO, (result % 256) as u64);
     let letter = plan::byte_at(text, line);
-    if letter == b'S' || letter == b'E' || result < 65536 {
-        return;
-    }
-    put(b' ');
-    put(b'(');
-    io::print_decimal(STDOUT_FILENO, (result / 65536) as u64);
-    put(b')');
+    beside(letter, result % 256, result / 256 % 256, result / 65536);
 }
 
 // The first n bytes: as text, its first line.

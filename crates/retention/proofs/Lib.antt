@@ -1,4 +1,5 @@
 -- Laws that the proofs here cite.
 pub mod TableLaws
 pub mod AboveLaws
+pub mod RecordLaws
 pub mod Cases

@@ -1,8 +1,8 @@
-// Retention classes: tables from marks to classes, and a node's class by a table and all marks. What they mean is specs/Record.antt. No
-// public function has a `requires`.
+// Retention classes: tables from marks to classes, a node's class by a table and all marks, and every node's. What they mean is
+// specs/Record.antt. No public function has a `requires`.
 ghost use mathlib.Core.Path.{_≡_};
 ghost use Prim.Native.Nat.{_<_};
-ghost use Rattle.retention.specs.Record.{commonTable, frameOk, tableNumber, fell, countsAbove, countsAs, class};
+ghost use Rattle.retention.specs.Record.{commonTable, frameOk, tableNumber, fell, countsAbove, countsAs, class, classesInto};
 
 // The table of classes where the house hands in none.
 pub fn common_table() -> [u8; 12]
@@ -93,5 +93,23 @@ pub fn class(plan: &[u8], table: &[u8], marks: &[u8], v: u8) -> u8
             let mark = counts_as(plan, marks, v);
             plan::byte_at(table, 2 * plan::wide(mark) + 1)
         }
+    }
+}
+
+// Every node's class by a table, in `out` if that is one byte a node of at most 160.
+pub fn classify(plan: &[u8], table: &[u8], marks: &[u8], out: &mut [u8])
+    ensures { λ _. ⌜ now (out .exit) ≡ classesInto (now (plan .entry)) (now (table .entry)) (now (marks .entry)) (now (out .entry)) ⌝ }
+{
+    let n = plan::node_count(plan);
+    if 160 < n {
+        return;
+    }
+    if out.len() != n {
+        return;
+    }
+    let mut v = 0;
+    while v < n {
+        out[v] = class(plan, table, marks, v as u8);
+        v += 1;
     }
 }

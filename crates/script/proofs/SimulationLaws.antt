@@ -16,11 +16,11 @@ use Rattle.plan.specs.Check.{checkNumber}
 use Rattle.plan.proofs.FitLaws.{fit-right}
 use Rattle.plan.proofs.Main.{check-exact}
 use Rattle.event.specs.Site.{own}
-use Rattle.retention.specs.Record.{tableNumber, recordOf}
+use Rattle.retention.specs.Record.{tableNumber, recordOf, Recorded, recorded}
 use Rattle.job.specs.Simulation.{Step, simulate, stateFits, zeros, replay, numbersFrom, endMarks}
 use Rattle.script.specs.Script.{AllZero}
 use Rattle.lists.proofs.Parts.{part-length, Back}
-use Rattle.simulation.specs.Run.{Recorded, recorded, recordNumber, recordByNumber, recordByInto, stepsOf, stepsFrom, Ran, ran, runNumber, runOf}
+use Rattle.simulation.specs.Run.{recordNumber, recordByNumber, recordByInto, stepsOf, stepsFrom, Ran, ran, runNumber, runOf}
 
 -- the record of an accepted plan, in the fronts of two buffers: n is the code's number of nodes
 pub plan-few : (p : List ℕ) → checkNumber p ≡ 0 → size p ≤ 160

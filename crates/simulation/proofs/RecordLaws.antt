@@ -1,5 +1,5 @@
 -- The record's and the list's calls: their tests, and what they leave. Assumes nothing.
-use mathlib.Core.Path.{_≡_, _∙_}
+use mathlib.Core.Path.{_≡_, refl, _∙_}
 use mathlib.Core.Bool.{Bool, true, _&&_}
 use mathlib.Core.List.{List}
 use Prim.Native.Nat.{ℕ, _+_, _*_, _/_, _%_, _≤_}
@@ -16,9 +16,10 @@ use Rattle.plan.proofs.FitLaws.{fit-none}
 use Rattle.plan.proofs.Main.{fit-exact}
 use Rattle.event.specs.Site.{own}
 use Rattle.central.specs.Mark.{markNumber}
-use Rattle.retention.specs.Record.{tableNumber, class, recordOf}
+use Rattle.retention.specs.Record.{tableNumber, recordOf, recorded, classesInto}
+use Rattle.retention.proofs.RecordLaws.{classes-are}
 use Rattle.job.specs.Simulation.{stateFits, markAt, endMarks}
-use Rattle.simulation.specs.Run.{markByte, recorded, recordNumber, recordByNumber, recordByInto, runNumber}
+use Rattle.simulation.specs.Run.{markByte, recordNumber, recordByNumber, recordByInto, runNumber}
 use Rattle.simulation.proofs.CodeLaws.{mark-byte}
 
 marks-same : (p st : List ℕ) → table (λ v. markByte (getD st (v * size p + v) 0)) (size p) ≡ endMarks p (own p) st
@@ -60,11 +61,12 @@ module _ (p st m c : List ℕ) where
         )
 
     pub record-done : (tab : List ℕ) → tableNumber tab ≡ 0 → (n : ℕ) → n ≡ size p → (m′ c′ : List ℕ) → m′ ≡ table (λ v. markByte (getD st (v * n + v) 0)) n →
-        c′ ≡ table (class p tab m′) (size p) → recordByInto p tab st m c ≡ recorded 0 m′ c′
+        c′ ≡ classesInto p tab m′ c → recordByInto p tab st m c ≡ recorded 0 m′ c′
     unfolding recordByInto recordByNumber recordOf
     record-done tab ok n e m′ c′ f g =
         let h : m′ ≡ endMarks p (own p) st = (rw e at f) ∙ marks-same p st in
-        rw (ok, zero, g, h)
+        let k : c′ ≡ recordOf p tab m′ .classes = g ∙ classes-are p tab m′ c (tests .0 .few) (record-lengths (size p) refl .3) in
+        rw (ok, zero, k, h)
 
 module _ (p bs st ns : List ℕ) where
   pub run-told : (n : ℕ) → n ≡ size p → (b : Bool) → b ≡ (eqb (length st) (n * n) && eqb (length bs % 3) 0 && eqb (length ns) (length bs / 3)) →

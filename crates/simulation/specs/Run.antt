@@ -12,7 +12,7 @@ use Rattle.event.specs.Event.{eventOf}
 use Rattle.event.specs.Site.{own, siteOf}
 use Rattle.event.specs.Bit.{hasBit}
 use Rattle.event.specs.Valid.{invalid}
-use Rattle.retention.specs.Record.{commonTable, tableNumber, Record, recordOf}
+use Rattle.retention.specs.Record.{commonTable, tableNumber, recordOf, Recorded, recorded, classed}
 use Rattle.job.specs.Simulation.{Step, stepFrom, Simulated, simulate, stateFits, replayFrom, numbersFrom, endMarks}
 
 -- q is the row of the event's site in a state of len bytes; a q that is no row of the plan says that the call is not valid
@@ -28,25 +28,15 @@ markByte b = cond (hasBit b 3) 3 (cond (hasBit b 4) 4 (cond (hasBit b 8) 5 (cond
 unfoldable pub simulateOf : List ℕ → ℕ → ℕ → ℕ → List ℕ → Simulated
 simulateOf p code node site st = simulate p (own p) st (stepFrom code node site)
 
--- G3: the record by a table, into two buffers
-pub record Recorded : Type 0 where
-  pub number : ℕ
-  pub marks : List ℕ
-  pub classes : List ℕ
-
-abbrev pub recorded : ℕ → List ℕ → List ℕ → Recorded
-recorded n m c = record { number = n; marks = m; classes = c }
-
+-- H7: the lengths of what is lent for a record
 unfoldable pub recordNumber : List ℕ → List ℕ → List ℕ → List ℕ → ℕ
 recordNumber p st m c = fitNumber p (stateFits p (own p) st && eqb (length m) (size p) && eqb (length c) (size p))
-
-abbrev classed : Record → Recorded
-classed r = recorded 0 (r .marks) (r .classes)
 
 -- H0, H21: the table's number comes before the plan's
 unfoldable pub recordByNumber : List ℕ → List ℕ → List ℕ → List ℕ → List ℕ → ℕ
 recordByNumber p tab st m c = cond (not (eqb (tableNumber tab) 0)) (tableNumber tab) (recordNumber p st m c)
 
+-- G3: the record by a table, into two buffers
 unfoldable pub recordByInto : List ℕ → List ℕ → List ℕ → List ℕ → List ℕ → Recorded
 recordByInto p tab st m c =
     cond (not (eqb (recordByNumber p tab st m c) 0)) (recorded (recordByNumber p tab st m c) m c)

@@ -7,11 +7,10 @@ ghost use Prim.Native.Nat.{ℕ, _+_, _*_, _/_, _%_, _<_, _≤_};
 ghost use lib.Dec.{eqb};
 ghost use lib.ListN.{length, getD};
 ghost use Rattle.lists.specs.Seq.{table};
-ghost use Rattle.plan.specs.Plan.{size};
 ghost use Rattle.event.specs.Site.{own};
-ghost use Rattle.retention.specs.Record.{class};
+ghost use Rattle.retention.specs.Record.{recorded};
 ghost use Rattle.job.specs.Simulation.{simulated, happen, tell, replayFrom, numbersFrom};
-ghost use Rattle.simulation.specs.Run.{Placed, markByte, simulateOf, recorded, recordByInto, recordInto, stepsOf, ran, runOf};
+ghost use Rattle.simulation.specs.Run.{Placed, markByte, simulateOf, recordByInto, recordInto, stepsOf, ran, runOf};
 
 // len is n times n, with no product that could be too large, and no division for a small n.
 fn is_square(n: usize, len: usize) -> bool
@@ -127,19 +126,6 @@ fn write_marks(n: usize, state: &[u8], marks: &mut [u8])
     }
 }
 
-// Every node's class by a table, one byte a node.
-fn write_classes(plan: &[u8], tab: &[u8], marks: &[u8], classes: &mut [u8])
-    requires { ⌜ (size (now plan) ≤ 160) × (length (now classes) ≡ size (now plan)) ⌝ }
-    ensures { λ _. ⌜ now (classes .exit) ≡ table (class (now (plan .entry)) (now (tab .entry)) (now (marks .entry))) (size (now (plan .entry))) ⌝ }
-{
-    let n = plan::node_count(plan);
-    let mut v = 0;
-    while v < n {
-        classes[v] = retention::class(plan, tab, marks, v as u8);
-        v += 1;
-    }
-}
-
 fn record_fits(n: usize, state: usize, marks: usize, classes: usize) -> bool
     ensures { λ r. ⌜ r ≡ (eqb state (n * n) && eqb marks n && eqb classes n) ⌝ }
 {
@@ -169,7 +155,7 @@ pub fn record_by(plan: &[u8], tab: &[u8], state: &[u8], marks: &mut [u8], classe
         return number;
     }
     write_marks(n, state, marks);
-    write_classes(plan, tab, marks, classes);
+    retention::classify(plan, tab, marks, classes);
     0
 }
 

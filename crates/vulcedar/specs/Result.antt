@@ -2,7 +2,7 @@
 use Prim.Native.Nat.{ℕ, _+_, _*_}
 use Rattle.guard.specs.Rule.{Named}
 use Rattle.writer.specs.declared.Written.{Written}
-use Rattle.writer.specs.Written.{writtenNumber, writtenLength}
+use Rattle.writer.specs.Written.{writtenNumber, writtenRule, writtenLength}
 use Rattle.site.specs.declared.Report.{Report}
 use Rattle.site.specs.declared.Verdict.{Verdict}
 use Rattle.site.specs.Verdict.{reportOf}
@@ -10,13 +10,17 @@ use Rattle.central.specs.Rule.{rulingNumber, rulingValue}
 use Rattle.central.specs.declared.Ruling.{Ruling}
 use Rattle.script.specs.declared.TextResult.{TextResult}
 
+-- K5: 1.0.0, as 65536 times its first number, 256 times its second, and its third
+unfoldable pub version : ℕ
+version = 65536 * 1 + 256 * 0 + 0
+
 -- K1: the number in bits 0 to 7, the event's site in bits 8 to 15, a value in bits 16 to 31
 abbrev pub result : ℕ → ℕ → ℕ → ℕ
 result n q v = n + 256 * q + 65536 * v
 
--- K2: the guard's length is the value
+-- K2: the guard's length is the value; its rule stands where there is no site
 unfoldable pub ofWritten : Written → ℕ
-ofWritten w = result (writtenNumber w) 0 (writtenLength w)
+ofWritten w = result (writtenNumber w) (writtenRule w) (writtenLength w)
 
 -- K2: the rule is the value
 unfoldable pub ofNamed : Named → ℕ
@@ -29,7 +33,7 @@ ofReport r = result (r .number) (r .site) (r .rule)
 abbrev pub ofVerdict : Verdict → ℕ
 ofVerdict v = ofReport (reportOf v)
 
--- K2: whether the event is allowed is the value
+-- K1, K2: a ruling's number, and whether the event is allowed as the value
 unfoldable pub ofRuling : Ruling → ℕ
 ofRuling r = result (rulingNumber r) 0 (rulingValue r)
 

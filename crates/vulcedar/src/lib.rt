@@ -10,9 +10,11 @@ ghost use Rattle.writer.specs.Written.{writeOf};
 ghost use Rattle.site.specs.Step.{stepOf, hearOf};
 ghost use Rattle.central.specs.Rule.{ruleOf};
 ghost use Rattle.pass.specs.Pass.{passInto};
+ghost use Rattle.retention.specs.Record.{tableNumber};
+ghost use Rattle.pass_record.specs.PassRecord.{passRecordInto};
 ghost use Rattle.simulation.specs.Run.{simulateOf, recordByInto, recordInto};
 ghost use Rattle.script.specs.Script.{runTextInto};
-ghost use Rattle.vulcedar.specs.Result.{result, ofWritten, ofNamed, ofVerdict, ofRuling, ofText};
+ghost use Rattle.vulcedar.specs.Result.{version, result, ofWritten, ofNamed, ofVerdict, ofRuling, ofText};
 
 fn packed(number: u8, site: u8) -> u32
     ensures { λ r. ⌜ r ≡ result number site 0 ⌝ }
@@ -31,6 +33,13 @@ fn of_verdict(v: site::Verdict) -> u32
 {
     let r = site::report_of(v);
     with_rule(r.number, r.site, r.rule)
+}
+
+#[no_mangle]
+pub extern "C" fn vulcedar_version() -> u32
+    ensures { λ r. ⌜ r ≡ version ⌝ }
+{
+    65536
 }
 
 #[no_mangle]
@@ -63,7 +72,7 @@ pub extern "C" fn vulcedar_guard(plan: &[u8], code: u32, node: u32, buf: &mut [u
 {
     let w = writer::write_guard(plan, code, node, buf);
     match w {
-        writer::Written::Done(g) => 65536 * (g.length as u32),
+        writer::Written::Done(g) => packed(0, g.rule) + 65536 * (g.length as u32),
         writer::Written::Refused(n) => packed(n, 0),
     }
 }
@@ -161,6 +170,29 @@ pub extern "C" fn vulcedar_record_by(
     ensures { λ r. ⌜ now (classes .exit) ≡ recordByInto (now (plan .entry)) (now (tab .entry)) (now (state .entry)) (now (marks .entry)) (now (classes .entry)) .classes ⌝ }
 {
     packed(simulation::record_by(plan, tab, state, marks, classes), 0)
+}
+
+#[no_mangle]
+pub extern "C" fn vulcedar_check_table(table: &[u8]) -> u32
+    ensures { λ r. ⌜ r ≡ result (tableNumber (now (table .entry))) 0 0 ⌝ }
+{
+    packed(retention::check_table(table), 0)
+}
+
+#[no_mangle]
+pub extern "C" fn vulcedar_pass_record(
+    plan: &[u8],
+    table: &[u8],
+    answers: &[u8],
+    marks: &mut [u8],
+    classes: &mut [u8],
+) -> u32
+    ensures { λ r. ⌜ r ≡ result (passRecordInto (now (plan .entry)) (now (table .entry)) (now (answers .entry)) (now (marks .entry)) (now (classes .entry)) .number) 0 0 ⌝ }
+    ensures { λ r. ⌜ now (marks .exit) ≡ passRecordInto (now (plan .entry)) (now (table .entry)) (now (answers .entry)) (now (marks .entry)) (now (classes .entry)) .marks ⌝ }
+    ensures { λ r. ⌜ now (classes .exit) ≡ passRecordInto (now (plan .entry)) (now (table .entry)) (now (answers .entry)) (now (marks .entry)) (now (classes .entry)) .classes ⌝ }
+{
+    let number = pass_record::pass_record(plan, table, answers, marks, classes);
+    packed(number, 0)
 }
 
 #[no_mangle]

@@ -13,17 +13,22 @@ use Rattle.writer.specs.declared.WrittenGuard.{WrittenGuard}
 use Rattle.writer.specs.declared.Written.{Written}
 use Rattle.writer.specs.declared.Written.the-variants.{Done, Refused}
 
--- the number of every answer: 0 where a guard was written, else that of the test that failed
+-- H0, H18: the number of every answer: 0 where a guard was written, else that of the test that failed
 unfoldable pub writtenNumber : Written → ℕ
 writtenNumber (Done g) = 0
 writtenNumber (Refused n) = n
 
--- and the guard's length, 0 where none was written
+-- H18: and the guard's length, 0 where none was written
 unfoldable pub writtenLength : Written → ℕ
 writtenLength (Done g) = g .length
 writtenLength (Refused n) = 0
 
--- a buffer and the writer's answer
+-- C10, H18: and the rule behind it, 0 where none was written
+unfoldable pub writtenRule : Written → ℕ
+writtenRule (Done g) = g .rule
+writtenRule (Refused n) = 0
+
+-- H18: a buffer and the writer's answer
 pub record Filled : Type 0 where
   pub buffer : List ℕ
   pub answer : Written

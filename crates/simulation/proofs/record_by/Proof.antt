@@ -51,8 +51,8 @@ returns-2 c = record-refused _ _ _ _ _ (right (c .before .before .before .before
 write-marks-requires : tie.Need-write-marks-requires
 write-marks-requires c κs = let l = lengths (c .before) in (l .0, l .1, l .2)
 
-write-classes-requires : tie.Need-write-classes-requires
-write-classes-requires c κs = let l = lengths (c .before .before .before .before .before .before) in let e = c .before .before .before .before .before .before .before .before .before .node-count .ensures in (omega arith, l .3 ∙ e)
+classify-requires : tie.Need-classify-requires
+classify-requires c κs = search needs
 
 same-length : tie.Need-same-length
 same-length c = search needs
@@ -63,7 +63,7 @@ same-length-2 c = search needs
 returns-3 : tie.Need-returns-3
 returns-3 c =
     let d = c .before .before .before .before .before .before .before .before .before in
-    record-done _ _ _ _ (none d) _ (right (d .before .before .before .before)) _ (d .before .before .before .node-count .ensures) _ _ (c .before .before .before .before .before .before .before .write-marks .ensures) (c .before .before .write-classes .ensures)
+    record-done _ _ _ _ (none d) _ (right (d .before .before .before .before)) _ (d .before .before .before .node-count .ensures) _ _ (c .before .before .before .before .before .before .before .write-marks .ensures) (c .before .before .classify .ensures)
 
 pub record-by-spec : {M : Type 1} → statement M
 record-by-spec =
@@ -76,7 +76,7 @@ record-by-spec =
     fit-requires
     returns-2
     write-marks-requires
-    write-classes-requires
+    classify-requires
     same-length
     same-length-2
     returns-3)
