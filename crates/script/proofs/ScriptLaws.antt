@@ -22,7 +22,7 @@ use Rattle.simulation.specs.Run.{stepsOf}
 use Rattle.text.specs.Text.{body, stepLines, wellFormed, planBytes, stepBytes}
 use Rattle.text.specs.Calls.{Printing, printing}
 use Rattle.text.proofs.CallLaws.{step-bytes, steps-few}
-use Rattle.script.specs.Script.{numberLine, numberLines, nodeLines, simulationLines, tableOf, textNumber, textLines, numberOrLines, printed, rehearseInto, TextRun, textRun, refused, passed, linesInto, runTextInto}
+use Rattle.script.specs.Script.{numberLine, numberLines, nodeLines, simulationLines, tableOf, textNumber, textLines, numberOrLines, printed, rehearseInto, TextRun, textRun, refused, textDone, linesInto, runTextInto}
 use Rattle.script.specs.declared.TextResult.{TextResult}
 use Rattle.script.proofs.LineLaws.{number-length, numbers-length, nodes-length}
 use Rattle.script.proofs.SimulationLaws.{RunTold, numbers-count, frames-count}
@@ -50,7 +50,7 @@ module _ (n : ℕ) (ls : List ℕ) where
   unfolding linesInto
   lines-short b e l = rw (e, lt-ltb (length b) 16384 l)
 
-  lines-passed : (b : List ℕ) {b′ : List ℕ} {w : ℕ} → n ≡ 0 → length ls ≤ 16384 → 16384 ≤ length b → Put ls b 0 b′ w → linesInto n ls b ≡ textRun (passed w) b′
+  lines-passed : (b : List ℕ) {b′ : List ℕ} {w : ℕ} → n ≡ 0 → length ls ≤ 16384 → 16384 ≤ length b → Put ls b 0 b′ w → linesInto n ls b ≡ textRun (textDone w) b′
   unfolding linesInto
   lines-passed b e f l h =
       let g : length ls ≤ length b = omega arith in
@@ -193,7 +193,7 @@ module _ {p bs : List ℕ} {n : ℕ} {z y : List ℕ} {r : ℕ} {st ns : List �
     pub plan-passed : (tab b : List ℕ) {b′ b″ : List ℕ} {w w′ : ℕ} → length bs ≤ 14043 → 16384 ≤ length b →
         Put (numberLines (take (length bs / 3) (ns ++ drop (length bs / 3) y))) b 0 b′ w →
         Put (nodeLines p (recordOf p tab (endMarks p (own p) (take (n * n) (st ++ drop (n * n) z))))) b′ w b″ w′ →
-        linesInto (checkNumber p) (simulationLines tab p (stepsOf bs)) b ≡ textRun (passed w′) b″
+        linesInto (checkNumber p) (simulationLines tab p (stepsOf bs)) b ≡ textRun (textDone w′) b″
     unfolding simulationLines
     plan-passed tab b few l q q′ =
         let ns-are = back-is (h .numbers-back) ∙ h .numbers told-accepted in

@@ -72,14 +72,14 @@ textRun r b = record { result = r; out = b }
 abbrev pub refused : ℕ → TextResult
 refused n = record { number = n; length = 0 }
 
-abbrev pub passed : ℕ → TextResult
-passed w = record { number = 0; length = w }
+abbrev pub textDone : ℕ → TextResult
+textDone w = record { number = 0; length = w }
 
 -- H0, H7, J5: lines whose number is n: n, then 7 where b is shorter than 16,384 bytes, and b is left; on 0 the lines at the front of b
 unfoldable pub linesInto : ℕ → List ℕ → List ℕ → TextRun
 linesInto n ls b =
     cond (not (eqb n 0)) (textRun (refused n) b)
-    (cond (ltb (length b) 16384) (textRun (refused 7) b) (textRun (passed (length ls)) (ls ++ drop (length ls) b)))
+    (cond (ltb (length b) 16384) (textRun (refused 7) b) (textRun (textDone (length ls)) (ls ++ drop (length ls) b)))
 
 unfoldable pub runTextInto : List ℕ → List ℕ → TextRun
 runTextInto t b = linesInto (textNumber t) (textLines t) b
