@@ -1,5 +1,5 @@
 #!/usr/bin/env bash
-# The C interface from outside, compiled with every warning an error. The header: what it says about calling, as C under the sanitizers and as C++; how much stack a call takes. The example host: run under the sanitizers for many seeds, each with the plan as it is and as an old one, and once under valgrind where it is there.
+# The C interface from outside, compiled with every warning an error. The header: what it says about calling, as C under the sanitizers and as C++; how much stack a call takes. The guide's table of whom to tell. The example host: run under the sanitizers for many seeds, each with the plan as it is and as an old one, and once under valgrind where it is there.
 set -euo pipefail
 cd "$(dirname "$0")/.."
 sh packaging/need.sh gcc g++
@@ -15,6 +15,8 @@ g++ -std=c++11 "${flags[@]}" -Wold-style-cast -Wuseless-cast -x c++ tests/header
 "$out/header-cpp" > /dev/null
 gcc -std=c11 "${flags[@]}" -O2 -Wl,-z,now tests/stack.c "$archive" -o "$out/stack"
 "$out/stack"
+gcc -std=c99 "${flags[@]}" -O2 tests/tell.c "$archive" -o "$out/tell"
+"$out/tell"
 
 gcc -std=c99 "${flags[@]}" "${san[@]}" examples/host.c "$archive" -o "$out/host-san"
 gcc -std=c99 "${flags[@]}" -O2 examples/host.c "$archive" -o "$out/host"

@@ -2,6 +2,7 @@
 #include <vulcedar.h>
 
 #include <cstdio>
+#include <initializer_list>
 
 int main()
 {
