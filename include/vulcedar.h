@@ -234,20 +234,20 @@ uint32_t vulcedar_central(const uint8_t *plan, size_t plan_len, uint32_t code, u
 uint32_t vulcedar_check_table(const uint8_t *table, size_t table_len);
 
 /*
- * The record of vulcedar_record, classed by the house's own table. 21 if the table has another length, its marks are not
- * 0 to 5 in order, a class is above 3, or mark 0 has another class than 0; then 1 to 7. marks and classes are written only
- * on 0.
- */
-uint32_t vulcedar_record_by(const uint8_t *plan, size_t plan_len, const uint8_t *table, size_t table_len, const uint8_t *state,
-                            size_t state_len, uint8_t *marks, size_t marks_len, uint8_t *classes, size_t classes_len);
-
-/*
  * The record of the single pass: the marks of vulcedar_pass for these answers, classed by a table. There is no table of
  * its own: hand in the common one or the house's. 21, then 1 to 7, then the first of 13 and 14 that is met. marks and
  * classes are written only on 0.
  */
 uint32_t vulcedar_pass_record(const uint8_t *plan, size_t plan_len, const uint8_t *table, size_t table_len, const uint8_t *answers,
                               size_t answers_len, uint8_t *marks, size_t marks_len, uint8_t *classes, size_t classes_len);
+
+/*
+ * The record of vulcedar_record, classed by the house's own table. 21 if the table has another length, its marks are not
+ * 0 to 5 in order, a class is above 3, or mark 0 has another class than 0; then 1 to 7. marks and classes are written only
+ * on 0.
+ */
+uint32_t vulcedar_record_by(const uint8_t *plan, size_t plan_len, const uint8_t *table, size_t table_len, const uint8_t *state,
+                            size_t state_len, uint8_t *marks, size_t marks_len, uint8_t *classes, size_t classes_len);
 
 #ifdef __cplusplus
 }
