@@ -1,5 +1,7 @@
 # Vulcedar with plain make. `make help` lists the targets; README.md begins with two of them.
 
+SHELL = /bin/bash
+.SHELLFLAGS = -o pipefail -c
 CC = gcc
 CFLAGS = -O2
 prefix = /usr/local
@@ -33,14 +35,13 @@ all: ready $(archive) $(shared) $(command) ## the archive, the shared library an
 ready:
 	$(need) rt $(firstword $(CC))
 
-# rt proves what it has not proved yet, then compiles; its own lines are in target/archive.log
+# rt proves what it has not proved yet, then compiles; all that it says is in target/archive.log
 $(archive): $(proved)
 	$(need) rt
 	@mkdir -p target
-	@echo "proving and compiling the library (in a fresh clone some minutes: every crate below it is proved first) .."
-	@rt staticlib vulcedar > target/archive.log 2>&1 || { tail -n 20 target/archive.log; exit 1; }
+	@echo 'the library is proved and compiled; in a fresh clone this takes some minutes'
+	@rt staticlib vulcedar 2>&1 | tee target/archive.log | grep --line-buffered '^rt: ' || { tail -n 20 target/archive.log; exit 1; }
 	@touch $@
-	@echo "proved and compiled: $@"
 
 $(shared): $(archive) packaging/vulcedar.map
 	@mkdir -p $(@D)

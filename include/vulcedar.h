@@ -11,8 +11,8 @@
  * VULCEDAR_NODES_MOST nodes, none deeper than VULCEDAR_DEPTH_MOST; the root has depth 1. All sites of a job need the same
  * plan, byte for byte, from the job's beginning to its end.
  *
- * EVENTS. A code (enum vulcedar_code) and a node. A pick of a node is decided at the site of the node's parent, any other
- * event at the site of its own node.
+ * EVENTS. A code (enum vulcedar_code, named by verbs; marks have participles) and a node. A pick of a node is decided at
+ * the site of the node's parent, any other event at the site of its own node.
  *
  * ROWS. A row has one byte a node: bit code - 1 of a node's byte is set once the site has heard of that event. A fresh row
  * is zeros. A row has one owner at a time: two calls on the same row must not run at once, and between them nothing but
@@ -41,7 +41,7 @@
  *
  * CALLING. No call keeps or allocates anything; each may be called from any thread. Buffers of one call must not overlap,
  * and nobody else may write them during the call. A length says how many bytes behind the pointer are there; with length 0
- * nothing is read or written, and the pointer may be null. A call takes at most VULCEDAR_STACK_MOST bytes of stack.
+ * nothing is read or written, and the pointer may be null. A call takes at most VULCEDAR_STACK_MOST bytes of stack (measured for the largest plans).
  *
  * MACHINES. The library is compiled for x86-64 Linux with glibc (any x86-64 processor; position independent code). Of the
  * C library it needs memcpy and memset.
@@ -114,8 +114,8 @@ enum vulcedar_number {
     VULCEDAR_BARRED = 10,        /* it happened already, or something that rules it out did; this will not change */
     VULCEDAR_UNMET = 11,         /* the site has not heard all that the event waits for; this may change */
     VULCEDAR_NOT_HAPPENED = 12,  /* simulation: the message tells of something that did not happen */
-    VULCEDAR_BAD_ANSWER = 13,    /* pass: the answer of a task or a conditional is not 1 or 2 */
-    VULCEDAR_BAD_PICK = 14,      /* pass: the answer of an xor is no offering child, or 0 while one offers */
+    VULCEDAR_BAD_ANSWER = 13,    /* pass: a task or a conditional that it comes to has another answer than 1 and 2 */
+    VULCEDAR_BAD_PICK = 14,      /* pass: an xor's answer names no child that offers though one does, or names one though none does */
     VULCEDAR_BAD_TEXT = 15,      /* the text of a simulation is not one */
     VULCEDAR_BAD_TABLE = 21      /* the table of classes is not one; found before the plan's own numbers */
 };
@@ -199,9 +199,10 @@ uint32_t vulcedar_step(const uint8_t *plan, size_t plan_len, uint32_t code, uint
 uint32_t vulcedar_hear(const uint8_t *plan, size_t plan_len, uint32_t code, uint32_t node, uint8_t *row, size_t row_len);
 
 /*
- * The single pass: from one answer byte a node to every node's mark. Read at a task: 1 works, 2 fails; at a conditional:
- * 1 yes, 2 no; at an xor: the place, from 1, of the picked child, 0 if none offers; read only where the pass gets to.
- * 1 to 7, then the first of 13 and 14 that is met. marks is written only on 0.
+ * The single pass: what becomes of every node, once it is known how the tasks end and what is decided. answers has one
+ * byte a node; the pass looks at those of the nodes that it comes to: for a task whether it works (1) or fails (2), for a
+ * conditional whether it says yes (1) or no (2), for an xor which of its children is picked, counted from 1, and 0 where
+ * none of them offers. 1 to 7, then the first of 13 and 14 that is met. marks is written only on 0.
  */
 uint32_t vulcedar_pass(const uint8_t *plan, size_t plan_len, const uint8_t *answers, size_t answers_len, uint8_t *marks,
                        size_t marks_len);
@@ -230,7 +231,7 @@ uint32_t vulcedar_record(const uint8_t *plan, size_t plan_len, const uint8_t *st
 uint32_t vulcedar_central(const uint8_t *plan, size_t plan_len, uint32_t code, uint32_t node, uint8_t *marks, size_t marks_len,
                           uint8_t *notes, size_t notes_len);
 
-/* Checks a table of classes, as every call that takes one does: 0, or 21. */
+/* Checks a table of classes, as every call that takes one does: 0, or 21 if it is not what RECORDS above says. */
 uint32_t vulcedar_check_table(const uint8_t *table, size_t table_len);
 
 /*
@@ -242,9 +243,8 @@ uint32_t vulcedar_pass_record(const uint8_t *plan, size_t plan_len, const uint8_
                               size_t answers_len, uint8_t *marks, size_t marks_len, uint8_t *classes, size_t classes_len);
 
 /*
- * The record of vulcedar_record, classed by the house's own table. 21 if the table has another length, its marks are not
- * 0 to 5 in order, a class is above 3, or mark 0 has another class than 0; then 1 to 7. marks and classes are written only
- * on 0.
+ * The record of vulcedar_record, classed by the house's own table: 21 if vulcedar_check_table refuses it, then 1 to 7.
+ * marks and classes are written only on 0.
  */
 uint32_t vulcedar_record_by(const uint8_t *plan, size_t plan_len, const uint8_t *table, size_t table_len, const uint8_t *state,
                             size_t state_len, uint8_t *marks, size_t marks_len, uint8_t *classes, size_t classes_len);
