@@ -7,7 +7,7 @@ use Prim.Native.Nat.{ℕ, _<_}
 use lib.Dec.{eqb}
 use borrow.Author.Tests.{eq-eqb, eqb-true}
 use Rattle.lists.specs.Seq.{table}
-use Rattle.lists.proofs.Logic.{same-bool, no-bool, parts, clash}
+use Rattle.lists.proofs.Logic.{cases, decided, same-bool, no-bool, parts, clash}
 use Rattle.plan.specs.Plan.{size}
 use Rattle.plan.specs.Check.{Accepted}
 use Rattle.event.specs.Event.{codeNumber, Event, among, applies}
@@ -20,7 +20,7 @@ use Rattle.pass.specs.Pass.{pass}
 use Rattle.retention.specs.Record.{recordOf}
 use Rattle.row.specs.Row.{heard}
 use Rattle.site.specs.Verdict.{verdictNumber}
-use Rattle.site.specs.Step.{stepOf}
+use Rattle.site.specs.Step.{stepInvalid, stepOf}
 use Rattle.runs.specs.Agree.{Bytes, Agrees}
 use Rattle.runs.specs.Claims.{Stuck}
 use Rattle.runs.proofs.Net.{passedIn, movedAll, silence}
@@ -30,7 +30,7 @@ use Rattle.runs.proofs.Main.{guards-follow-rule, five-events, runs-end, stuck-i
 use Rattle.job.specs.Simulation.{rowOf, Step, simulate, replayFrom, passedFrom, heardFrom, zeros, replay, passed, heardAt, markAt, endMarks}
 use Rattle.job.specs.Claim.{rowAt, centralAfter, Informed, Over, Claim}
 use Rattle.job.proofs.View.{view, zero-bytes, zero-view}
-use Rattle.site.proofs.StepLaws.{step-passes}
+use Rattle.site.proofs.StepLaws.{step-tested, step-passes}
 use Rattle.job.proofs.StepLaws.{refused-leaves, repeat-leaves, step-valid}
 use Rattle.job.proofs.Bridge.{decodeAll, stepOfMove, event-back, moves-back, DidAll, did-all}
 use Rattle.job.proofs.Marks.{mark-by-row}
@@ -84,17 +84,25 @@ module _ (p : List ℕ) (ok : Accepted p) (lay : Layout) (housed : Housed p lay)
     unfolding rowAt centralAfter
     central e a h = guards-follow-rule p ok (passed p lay ts) (sound .run) (heard (rowOf p (replay p lay ts) (siteOf p lay e))) (row-whole (siteOf p lay e) h) e a
 
-    number-at : (e : Event) → applies p e ≡ true → Informed p lay ts (siteOf p lay e) →
+    -- an event that does not apply passes nowhere
+    number-off : (e : Event) (row : List ℕ) → applies p e ≡ false → eqb (verdictNumber (stepOf p (codeNumber (e .code)) (e .node) row .verdict)) 0 ≡ false
+    number-off e row n =
+        step-passes p (codeNumber (e .code)) (e .node) row
+        ∙ rw (no-bool (eqb (stepInvalid p (codeNumber (e .code)) (e .node) row) 0)
+        (λ z. clash (applies p e) (ap (applies p) (sym (event-back e)) ∙ step-tested p _ (e .node) row (eqb-true _ 0 z) .applied) n))
+
+    number-at : (e : Event) → Informed p lay ts (siteOf p lay e) →
         eqb (verdictNumber (stepOf p (codeNumber (e .code)) (e .node) (rowAt p lay ts e) .verdict)) 0 ≡ allowed p (centralAfter p lay ts) e
-    unfolding rowAt
-    number-at e a h =
-        step-passes p (codeNumber (e .code)) (e .node) (rowOf p (replay p lay ts) (siteOf p lay e))
+    unfolding rowAt allowed
+    number-at e h = cases (decided (applies p e))
+        (λ a. step-passes p (codeNumber (e .code)) (e .node) (rowOf p (replay p lay ts) (siteOf p lay e))
         ∙ rw (
           step-valid p ok lay housed (replay p lay ts) (whole .bytes .long) (codeNumber (e .code)) (e .node) (siteOf p lay e) (site-in p ok lay housed e a),
           code-is (e .code),
           event-back e,
           a,
-        ) (central e a h)
+        ) (central e a h ∙ rw a))
+        (λ n. number-off e (rowOf p (replay p lay ts) (siteOf p lay e)) n ∙ rw n)
 
     mark-is : (v : ℕ) → markAt p lay (replay p lay ts) v ≡ centralAfter p lay ts .mark v
     unfolding markAt centralAfter
@@ -154,5 +162,5 @@ module _ (p : List ℕ) (ok : Accepted p) (lay : Layout) (housed : Housed p lay)
     same-record = λ ts over a bytes g tab. ap (λ r. recordOf p tab (r .marks)) (pass-is ts over a bytes g);
     ends = ended;
     agreed = answers-agree p ok;
-    faithful = λ ts e a h. (λ n. sym (number-at ts e a h) ∙ eq-eqb _ 0 n, λ k. eqb-true _ 0 (number-at ts e a h ∙ k));
+    faithful = λ ts e h. (λ n. sym (number-at ts e h) ∙ eq-eqb _ 0 n, λ k. eqb-true _ 0 (number-at ts e h ∙ k));
   }

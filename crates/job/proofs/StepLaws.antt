@@ -80,7 +80,7 @@ repeat-leaves p lay st code node q h = tell-leaves p lay st code node q ∙ go (
     go false = refl
 
 -- AN ACCEPTED PLAN
-valid-is : (p : List ℕ) → Accepted p → (sited : Bool) (code node : ℕ) →
+pub valid-is : (p : List ℕ) → Accepted p → (sited : Bool) (code node : ℕ) →
     eqb (invalid p true sited code node) 0 ≡ ((isCode code && applies p (eventOf code node)) && sited)
 unfolding invalid known applies
 valid-is p ok sited code node =

@@ -64,8 +64,8 @@ pub record Claim (p : List ℕ) (lay : Layout) : Type 0 where
   -- I8, I9: neither premise of I10 is empty. Every run goes on to one whose job is over, and some answers agree with every run
   pub ends : (es : List Event) → isRun p es ≡ true → (fs : List Event) × (ts : List Step) × (passed p lay ts ≡ es ++ fs) × Over p lay ts
   pub agreed : (es : List Event) → isRun p es ≡ true → (a : List ℕ) × Bytes (size p) a × Agrees p (among es) a
-  -- I11: demand 2
-  pub faithful : (ts : List Step) (e : Event) → applies p e ≡ true → Informed p lay ts (siteOf p lay e) →
+  -- I11: demand 2, for every event, one that does not apply too
+  pub faithful : (ts : List Step) (e : Event) → Informed p lay ts (siteOf p lay e) →
       (verdictNumber (stepOf p (codeNumber (e .code)) (e .node) (rowAt p lay ts e) .verdict) ≡ 0) ↔ (allowed p (centralAfter p lay ts) e ≡ true)
 
 -- THE CLAIM OF DEMAND 3: for every accepted plan, with any layout that gives every node a row
