@@ -23,6 +23,7 @@ packages = target/packages/vulcedar.pc target/packages/vulcedarConfig.cmake targ
 pkgconfig = $(libdir)/pkgconfig
 cmakedir = $(libdir)/cmake/vulcedar
 need = @sh packaging/need.sh
+also =
 proved = $(shell find crates -name '*.rt' -o -name '*.antt') crates.txt
 
 .PHONY: all ready demo check bench install uninstall clean help
@@ -32,8 +33,9 @@ all: ready $(archive) $(shared) $(command) ## the archive, the shared library an
 
 	@$(if $(command),,echo 'tools/rehearse.c is not there: the command rehearse is left out')
 
+# what is missing is said first
 ready:
-	$(need) rt $(firstword $(CC))
+	$(need) rt $(firstword $(CC)) $(also)
 
 # rt proves what it has not proved yet, then compiles; all that it says is in target/archive.log
 $(archive): $(proved)
@@ -64,8 +66,8 @@ demo: ready target/demo/host ## runs a whole job in the example host, and shows 
 check: ## the gate: proves everything from nothing, tries every edit that must be refused, runs every test
 	bash .ci/run
 
-bench: $(archive) ## measures every call beside an independent implementation in Rust
-	$(need) cargo
+bench: also = cargo
+bench: ready $(archive) ## measures every call beside an independent implementation in Rust
 	cd tests && CARGO_TARGET_DIR=$(CURDIR)/target/cargo cargo run --release --offline --quiet -p bench --features archive
 
 # written anew at every install, since they hold its directories

@@ -53,6 +53,7 @@ static const char *const MARK[] = { "not started", "running", "offered", "commit
 static const char *const CLASS[] = { "none", "aired", "draft", "log only" };
 
 struct message { uint8_t code, node, from, to; };
+struct record { uint8_t marks[NODES], classes[NODES]; };
 
 static uint8_t plan[2 * NODES];
 static uint8_t rows[NODES][NODES];                    /* what each site stores */
@@ -222,22 +223,22 @@ static void agree(uint8_t *answers)
 }
 
 /* Aired is a committed task below blocks that all committed, and nothing else, by the common table. */
-static bool filed(const uint8_t *end, const uint8_t *classes)
+static bool filed(const struct record *end)
 {
     for (int v = 0; v < NODES; v++) {
-        bool through = DAY[v].kind == VULCEDAR_TASK && end[v] == VULCEDAR_COMMITTED;
+        bool through = DAY[v].kind == VULCEDAR_TASK && end->marks[v] == VULCEDAR_COMMITTED;
         for (int above = DAY[v].parent; above != (int)VULCEDAR_NO_PARENT; above = DAY[above].parent) 
-            through = through && end[above] == VULCEDAR_COMMITTED;
-        if ((classes[v] == VULCEDAR_AIRED) != through) return false;
+            through = through && end->marks[above] == VULCEDAR_COMMITTED;
+        if ((end->classes[v] == VULCEDAR_AIRED) != through) return false;
     }
     return true;
 }
 
-static void print_records(const uint8_t *end, const uint8_t *classes, const uint8_t *pass)
+static void print_records(const struct record *end, const struct record *pass)
 {
     printf("\nnode                        end record             single pass\n");
     for (int v = 0; v < NODES; v++)
-        printf("%2d  %-22s  %-12s %-8s  %s\n", v, DAY[v].name, MARK[end[v]], CLASS[classes[v]], MARK[pass[v]]);
+        printf("%2d  %-22s  %-12s %-8s  %-12s %s\n", v, DAY[v].name, MARK[end->marks[v]], CLASS[end->classes[v]], MARK[pass->marks[v]], CLASS[pass->classes[v]]);
 }
 
 /* The plan as it was meant before kind 08. */
@@ -252,7 +253,9 @@ static void rewrite(void)
 
 int main(int argc, char **argv)
 {
-    uint8_t answers[NODES], pass[NODES], end[NODES], classes[NODES];
+    static const uint8_t table[] = VULCEDAR_COMMON_TABLE;
+    uint8_t answers[NODES];
+    struct record end, pass;
     if (argc > 1) seed = (uint32_t)strtoul(argv[1], NULL, 10);
     for (int v = 0; v < NODES; v++) plan[2 * v] = DAY[v].kind, plan[2 * v + 1] = DAY[v].parent;
     if (vulcedar_check(plan, sizeof plan) != VULCEDAR_PASSED) fail("the plan is refused");
@@ -268,13 +271,14 @@ int main(int argc, char **argv)
     }
 
     agree(answers);
-    if (vulcedar_pass(plan, sizeof plan, answers, NODES, pass, NODES) != VULCEDAR_PASSED) fail("the pass refuses the answers");
-    if (vulcedar_record(plan, sizeof plan, rows[0], sizeof rows, end, NODES, classes, NODES) != VULCEDAR_PASSED) fail("no record");
-    print_records(end, classes, pass);
+    if (vulcedar_pass_record(plan, sizeof plan, table, sizeof table, answers, NODES, pass.marks, NODES, pass.classes, NODES) != VULCEDAR_PASSED) fail("the pass refuses the answers");
+    if (vulcedar_record(plan, sizeof plan, rows[0], sizeof rows, end.marks, NODES, end.classes, NODES) != VULCEDAR_PASSED) fail("no record");
+    print_records(&end, &pass);
     printf("\n%u events, %u messages sent, %u dropped, %u doubled, %u not believed\n", events, sent, dropped, doubled, disbelieved);
-    if (!filed(end, classes)) fail("the classes are not those of the marks");
     if (memcmp(rows, state, sizeof rows) != 0) fail("the sites' rows are not those of the auditor's simulation");
-    if (memcmp(end, pass, NODES) != 0 || memcmp(end, marks, NODES) != 0) fail("the records differ");
+    if (memcmp(end.marks, marks, NODES) != 0) fail("the marks are not the central rule's");
+    if (!filed(&end)) fail("the classes are not those of the marks");
+    if (memcmp(&end, &pass, sizeof end) != 0) fail("the records differ");
     printf("the end record is the pass's\n");
     return 0;
 }
