@@ -1,13 +1,22 @@
 /*
  * An example host: the plan of a captioning day, one site a node, all in one process, over a bad line.
  *
- * The line drops messages (the sender resends until it has heard back), doubles them, mixes their order, and now and then
- * someone lies on it. Every site decides its own events by vulcedar_step on its own row and hears of others by
- * vulcedar_hear. An auditor replays every step in one simulation and replays the events against the central rule. When
- * nothing can happen any more, the end record is printed beside the one of a single pass.
+ * The line drops messages (the sender resends until it has heard back), doubles them and mixes their order, and now and
+ * then a site tells of an event that is not its own to tell. Every site decides its own events by vulcedar_step on its own
+ * row and hears of others by vulcedar_hear. When nothing can happen any more, the end record is printed beside the one of
+ * a single pass.
  *
- * With `old` the plan is taken as one from before kind 08, when an and-block waited for all its children: it is rewritten
- * first, and the block of the two live desks waits for both of them before it fails.
+ * What it relies on, as every host must (docs/GUIDE.md, "A host's two rules"):
+ *   1. Each step is taken on the row of the event's own site: happen() is the only caller of vulcedar_step that counts.
+ *   2. A site is told only of events that happened: arrive() believes of an event only the site that decides it, and that
+ *      site tells only what stands in its own row (resend). So `from` must be the true sender. Here it is; on a real line
+ *      this takes a connection that proves who speaks. vulcedar_hear itself believes whatever it is given.
+ *
+ * An auditor, which a real host does not need, runs every step in one simulation beside it and the events against the
+ * central rule, and stops the program if either differs.
+ *
+ * With `old` the plan is taken as one from before VULCEDAR_WAITING_AND, when an and-block waited for all its children: it
+ * is rewritten first, and the block of the two live desks waits for both of them before it fails.
  *
  * usage: host [seed [old]]      exit status 0 if the two records are the same
  */
@@ -18,26 +27,23 @@
 
 #include "vulcedar.h"
 
-enum { START = 1, OFFER, COMMIT, ABORT, YES, NO, PICK, DOWN };
-enum { TASK = 1, SERIAL, AND, OR, XOR, CONTINGENCY, CONDITIONAL, WAITING_AND };
-
 /* What a line of the plan is for. The second byte is the number of the parent. */
 static const struct { uint8_t kind, parent; const char *name; } DAY[] = {
-    { SERIAL, 0xff, "captioning day" },
-    { CONDITIONAL, 0, "script at hand?" },
-    { TASK, 1, "load the script" },
-    { TASK, 1, "train the recogniser" },
-    { AND, 0, "two live desks" },
-    { XOR, 4, "take for channel 1" },
-    { TASK, 5, "take by Ann" },
-    { TASK, 5, "take by Ben" },
-    { TASK, 5, "take by machine" },
-    { OR, 4, "check for channel 2" },
-    { TASK, 9, "first checker" },
-    { TASK, 9, "second checker" },
-    { CONTINGENCY, 0, "archive" },
-    { TASK, 12, "archive at the house" },
-    { TASK, 12, "archive at the back-up" },
+    { VULCEDAR_SERIAL, VULCEDAR_NO_PARENT, "captioning day" },
+    { VULCEDAR_CONDITIONAL, 0, "script at hand?" },
+    { VULCEDAR_TASK, 1, "load the script" },
+    { VULCEDAR_TASK, 1, "train the recogniser" },
+    { VULCEDAR_AND, 0, "two live desks" },
+    { VULCEDAR_XOR, 4, "take for channel 1" },
+    { VULCEDAR_TASK, 5, "take by Ann" },
+    { VULCEDAR_TASK, 5, "take by Ben" },
+    { VULCEDAR_TASK, 5, "take by machine" },
+    { VULCEDAR_OR, 4, "check for channel 2" },
+    { VULCEDAR_TASK, 9, "first checker" },
+    { VULCEDAR_TASK, 9, "second checker" },
+    { VULCEDAR_CONTINGENCY, 0, "archive" },
+    { VULCEDAR_TASK, 12, "archive at the house" },
+    { VULCEDAR_TASK, 12, "archive at the back-up" },
 };
 enum { NODES = sizeof DAY / sizeof DAY[0], LINE = 4096 };
 
@@ -47,6 +53,7 @@ static const char *const MARK[] = { "not started", "running", "offered", "commit
 static const char *const CLASS[] = { "none", "aired", "draft", "log only" };
 
 struct message { uint8_t code, node, from, to; };
+struct record { uint8_t marks[NODES], classes[NODES]; };
 
 static uint8_t plan[2 * NODES];
 static uint8_t rows[NODES][NODES];                    /* what each site stores */
@@ -55,7 +62,7 @@ static struct message line[LINE];
 static size_t waiting;
 static uint8_t state[NODES * NODES], marks[NODES], notes[NODES]; /* the auditor's */
 static uint32_t seed = 1;
-static unsigned sent, dropped, doubled, lies, events;
+static unsigned sent, dropped, doubled, disbelieved, events;
 
 static uint32_t draw(uint32_t below)
 {
@@ -63,7 +70,7 @@ static uint32_t draw(uint32_t below)
     return (seed >> 16) % below;
 }
 
-static uint32_t site_of(uint32_t code, uint32_t node) { return code == PICK ? DAY[node].parent : node; }
+static uint32_t site_of(uint32_t code, uint32_t node) { return code == VULCEDAR_PICK ? DAY[node].parent : node; }
 
 static bool heard(const uint8_t *row, uint32_t code, uint32_t node) { return row[node] >> (code - 1) & 1; }
 
@@ -78,7 +85,7 @@ static void print_guard(uint32_t code, uint32_t node)
 {
     uint8_t g[VULCEDAR_GUARD_MOST];
     uint32_t r = vulcedar_guard(plan, sizeof plan, code, node, g, sizeof g);
-    if (VULCEDAR_NUMBER(r) != 0) fail("no guard");
+    if (VULCEDAR_NUMBER(r) != VULCEDAR_PASSED) fail("no guard");
     const uint8_t *at = g + 1;
     if (g[0] == 0) printf("nothing");
     for (int clause = 0; clause < g[0]; clause++) {
@@ -107,7 +114,7 @@ static bool happen(uint32_t code, uint32_t node)
 {
     uint32_t at = site_of(code, node);
     uint32_t r = vulcedar_step(plan, sizeof plan, code, node, rows[at], NODES);
-    if (VULCEDAR_NUMBER(r) != 0) return false;
+    if (VULCEDAR_NUMBER(r) != VULCEDAR_PASSED) return false;
     if (VULCEDAR_SITE(r) != at) fail("another site answered");
     if (vulcedar_rule(plan, sizeof plan, code, node) != VULCEDAR_RULE(r) << 16) fail("another rule");
     printf("%3u  %-9s of %2u  %-22s waited for ", ++events, CODE[code], node, DAY[node].name);
@@ -115,24 +122,31 @@ static bool happen(uint32_t code, uint32_t node)
     printf("; rule %02x, ", VULCEDAR_RULE(r));
     print_rule(VULCEDAR_RULE(r));
     printf("\n");
+    /* the auditor */
     if (vulcedar_simulate(plan, sizeof plan, code, node, VULCEDAR_HAPPENS, state, sizeof state) != r) fail("the auditor's simulation differs");
     if (VULCEDAR_VALUE(vulcedar_central(plan, sizeof plan, code, node, marks, NODES, notes, NODES)) != 1) fail("the central rule forbids it");
     return true;
 }
 
-/* A message arrives. A site believes of an event only the site where it happens. */
+/* The auditor on a message that arrive() drops: the simulation refuses it, unless the event had happened after all. */
+static void audit_dropped(struct message m)
+{
+    uint32_t n;
+    if (heard(rows[site_of(m.code, m.node)], m.code, m.node)) return;
+    n = VULCEDAR_NUMBER(vulcedar_simulate(plan, sizeof plan, m.code, m.node, m.to, state, sizeof state));
+    if (n != VULCEDAR_NOT_HAPPENED && n != VULCEDAR_NOT_APPLICABLE) fail("the auditor believes a false message");
+}
+
+/* A message arrives. A site believes of an event only the site that decides it; whatever another one tells is dropped. */
 static void arrive(struct message m)
 {
-    uint32_t own = site_of(m.code, m.node);
-    if (m.from != own) {
-        lies++;
-        if (heard(rows[own], m.code, m.node)) return; /* true by chance: its own site will tell */
-        uint32_t n = VULCEDAR_NUMBER(vulcedar_simulate(plan, sizeof plan, m.code, m.node, m.to, state, sizeof state));
-        if (n != 12 && n != 9) fail("the auditor believes a lie");
+    if (m.from != site_of(m.code, m.node)) {
+        disbelieved++;
+        audit_dropped(m);
         return;
     }
-    if (vulcedar_hear(plan, sizeof plan, m.code, m.node, rows[m.to], NODES) != 0) fail("a message was refused");
-    if (vulcedar_simulate(plan, sizeof plan, m.code, m.node, m.to, state, sizeof state) != 0) fail("the auditor refuses a message");
+    if (vulcedar_hear(plan, sizeof plan, m.code, m.node, rows[m.to], NODES) != VULCEDAR_PASSED) fail("a message was refused");
+    if (vulcedar_simulate(plan, sizeof plan, m.code, m.node, m.to, state, sizeof state) != VULCEDAR_PASSED) fail("the auditor refuses a message");
     if (draw(4)) told[m.from][m.code][m.node][m.to] = true; /* else the confirmation was lost */
 }
 
@@ -154,7 +168,7 @@ static bool resend(void)
 {
     bool all = true;
     for (uint32_t node = 0; node < NODES; node++)
-        for (uint32_t code = START; code <= DOWN; code++) {
+        for (uint32_t code = VULCEDAR_START; code <= VULCEDAR_TURN_DOWN; code++) {
             uint32_t at = site_of(code, node);
             if (at >= NODES || !heard(rows[at], code, node)) continue;
             for (uint32_t to = 0; to < NODES; to++)
@@ -169,8 +183,8 @@ static bool resend(void)
 /* The desk's own will: which of its events a site tries. Tasks fail one time in four. */
 static bool wants(uint32_t code, uint32_t node)
 {
-    if (DAY[node].kind == TASK && (code == ABORT || code == COMMIT || code == OFFER)) return (draw(4) == 0) == (code == ABORT);
-    if (code == YES || code == NO) return draw(2) == 0;
+    if (DAY[node].kind == VULCEDAR_TASK && (code == VULCEDAR_ABORT || code == VULCEDAR_COMMIT || code == VULCEDAR_OFFER)) return (draw(4) == 0) == (code == VULCEDAR_ABORT);
+    if (code == VULCEDAR_YES || code == VULCEDAR_NO) return draw(2) == 0;
     return true;
 }
 
@@ -179,12 +193,12 @@ static bool work(void)
 {
     bool open = false;
     for (uint32_t node = 0; node < NODES; node++)
-        for (uint32_t code = START; code <= DOWN; code++) {
+        for (uint32_t code = VULCEDAR_START; code <= VULCEDAR_TURN_DOWN; code++) {
             uint32_t at = site_of(code, node);
             uint8_t trial[NODES];
             if (at >= NODES) continue;
             memcpy(trial, rows[at], NODES);
-            if (VULCEDAR_NUMBER(vulcedar_step(plan, sizeof plan, code, node, trial, NODES)) != 0) continue;
+            if (VULCEDAR_NUMBER(vulcedar_step(plan, sizeof plan, code, node, trial, NODES)) != VULCEDAR_PASSED) continue;
             open = true;
             if (draw(3) == 0 && wants(code, node)) happen(code, node);
         }
@@ -198,32 +212,33 @@ static void agree(uint8_t *answers)
         uint32_t place = 0, picked = 0;
         const uint8_t *row = rows[v];
         answers[v] = (uint8_t)draw(256);
-        if (DAY[v].kind == TASK && (heard(row, OFFER, v) || heard(row, COMMIT, v))) answers[v] = 1;
-        if (DAY[v].kind == TASK && heard(row, ABORT, v)) answers[v] = 2;
-        if (DAY[v].kind == CONDITIONAL && heard(row, YES, v)) answers[v] = 1;
-        if (DAY[v].kind == CONDITIONAL && heard(row, NO, v)) answers[v] = 2;
+        if (DAY[v].kind == VULCEDAR_TASK && (heard(row, VULCEDAR_OFFER, v) || heard(row, VULCEDAR_COMMIT, v))) answers[v] = 1;
+        if (DAY[v].kind == VULCEDAR_TASK && heard(row, VULCEDAR_ABORT, v)) answers[v] = 2;
+        if (DAY[v].kind == VULCEDAR_CONDITIONAL && heard(row, VULCEDAR_YES, v)) answers[v] = 1;
+        if (DAY[v].kind == VULCEDAR_CONDITIONAL && heard(row, VULCEDAR_NO, v)) answers[v] = 2;
         for (uint32_t c = 1; c < NODES; c++)
-            if (DAY[c].parent == v && (place++, heard(row, PICK, c))) picked = place;
-        if (DAY[v].kind == XOR && heard(row, START, v)) answers[v] = (uint8_t)picked;
+            if (DAY[c].parent == v && (place++, heard(row, VULCEDAR_PICK, c))) picked = place;
+        if (DAY[v].kind == VULCEDAR_XOR && heard(row, VULCEDAR_START, v)) answers[v] = (uint8_t)picked;
     }
 }
 
-/* Aired is a committed task below blocks that all committed, and nothing else. */
-static bool filed(const uint8_t *end, const uint8_t *classes)
+/* Aired is a committed task below blocks that all committed, and nothing else, by the common table. */
+static bool filed(const struct record *end)
 {
     for (int v = 0; v < NODES; v++) {
-        bool through = DAY[v].kind == TASK && end[v] == 3;
-        for (int above = DAY[v].parent; above != 0xff; above = DAY[above].parent) through = through && end[above] == 3;
-        if ((classes[v] == 1) != through) return false;
+        bool through = DAY[v].kind == VULCEDAR_TASK && end->marks[v] == VULCEDAR_COMMITTED;
+        for (int above = DAY[v].parent; above != (int)VULCEDAR_NO_PARENT; above = DAY[above].parent) 
+            through = through && end->marks[above] == VULCEDAR_COMMITTED;
+        if ((end->classes[v] == VULCEDAR_AIRED) != through) return false;
     }
     return true;
 }
 
-static void print_records(const uint8_t *end, const uint8_t *classes, const uint8_t *pass)
+static void print_records(const struct record *end, const struct record *pass)
 {
     printf("\nnode                        end record             single pass\n");
     for (int v = 0; v < NODES; v++)
-        printf("%2d  %-22s  %-12s %-8s  %s\n", v, DAY[v].name, MARK[end[v]], CLASS[classes[v]], MARK[pass[v]]);
+        printf("%2d  %-22s  %-12s %-8s  %-12s %s\n", v, DAY[v].name, MARK[end->marks[v]], CLASS[end->classes[v]], MARK[pass->marks[v]], CLASS[pass->classes[v]]);
 }
 
 /* The plan as it was meant before kind 08. */
@@ -231,17 +246,19 @@ static void rewrite(void)
 {
     uint8_t old[sizeof plan];
     memcpy(old, plan, sizeof plan);
-    if (vulcedar_rewrite(old, sizeof old, plan, sizeof plan) != 0) fail("the plan is not rewritten");
+    if (vulcedar_rewrite(old, sizeof old, plan, sizeof plan) != VULCEDAR_PASSED) fail("the plan is not rewritten");
     for (int v = 0; v < NODES; v++)
-        if (plan[2 * v] != (DAY[v].kind == AND ? WAITING_AND : DAY[v].kind) || plan[2 * v + 1] != DAY[v].parent) fail("the rewritten plan is another");
+        if (plan[2 * v] != (DAY[v].kind == VULCEDAR_AND ? VULCEDAR_WAITING_AND : DAY[v].kind) || plan[2 * v + 1] != DAY[v].parent) fail("the rewritten plan is another");
 }
 
 int main(int argc, char **argv)
 {
-    uint8_t answers[NODES], pass[NODES], end[NODES], classes[NODES];
+    static const uint8_t table[] = VULCEDAR_COMMON_TABLE;
+    uint8_t answers[NODES];
+    struct record end, pass;
     if (argc > 1) seed = (uint32_t)strtoul(argv[1], NULL, 10);
     for (int v = 0; v < NODES; v++) plan[2 * v] = DAY[v].kind, plan[2 * v + 1] = DAY[v].parent;
-    if (vulcedar_check(plan, sizeof plan) != 0) fail("the plan is refused");
+    if (vulcedar_check(plan, sizeof plan) != VULCEDAR_PASSED) fail("the plan is refused");
     if (argc > 2 && strcmp(argv[2], "old") == 0) rewrite();
 
     bool open = true, informed = false;
@@ -249,16 +266,19 @@ int main(int argc, char **argv)
         open = work();
         informed = resend();
         for (int i = 0; i < 40; i++) deliver();
-        if (draw(5) == 0) post((struct message){ (uint8_t)(START + draw(4)), (uint8_t)(1 + draw(NODES - 1)), 0, (uint8_t)draw(NODES) });
+        /* the root's site tells of something that is not its own to tell */
+        if (draw(5) == 0) post((struct message){ (uint8_t)(VULCEDAR_START + draw(4)), (uint8_t)(1 + draw(NODES - 1)), 0, (uint8_t)draw(NODES) });
     }
 
     agree(answers);
-    if (vulcedar_pass(plan, sizeof plan, answers, NODES, pass, NODES) != 0) fail("the pass refuses the answers");
-    if (vulcedar_record(plan, sizeof plan, state, sizeof state, end, NODES, classes, NODES) != 0) fail("no record");
-    print_records(end, classes, pass);
-    printf("\n%u events, %u messages sent, %u dropped, %u doubled, %u lies\n", events, sent, dropped, doubled, lies);
-    if (!filed(end, classes)) fail("the classes are not those of the marks");
-    if (memcmp(end, pass, NODES) != 0 || memcmp(end, marks, NODES) != 0) fail("the records differ");
+    if (vulcedar_pass_record(plan, sizeof plan, table, sizeof table, answers, NODES, pass.marks, NODES, pass.classes, NODES) != VULCEDAR_PASSED) fail("the pass refuses the answers");
+    if (vulcedar_record(plan, sizeof plan, rows[0], sizeof rows, end.marks, NODES, end.classes, NODES) != VULCEDAR_PASSED) fail("no record");
+    print_records(&end, &pass);
+    printf("\n%u events, %u messages sent, %u dropped, %u doubled, %u not believed\n", events, sent, dropped, doubled, disbelieved);
+    if (memcmp(rows, state, sizeof rows) != 0) fail("the sites' rows are not those of the auditor's simulation");
+    if (memcmp(end.marks, marks, NODES) != 0) fail("the marks are not the central rule's");
+    if (!filed(&end)) fail("the classes are not those of the marks");
+    if (memcmp(&end, &pass, sizeof end) != 0) fail("the records differ");
     printf("the end record is the pass's\n");
     return 0;
 }

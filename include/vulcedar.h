@@ -1,55 +1,50 @@
 /*
- * Vulcedar: jobs that follow a plan, decided by the sites that do the work.
+ * Vulcedar 1.0.0: jobs that follow a plan, decided by the sites that do the work.
  *
  * A plan is a tree of tasks and blocks. Every node has a site; a site keeps one row of bytes, what it has heard, and
  * decides the events of its node from that row alone. This header is all that a host needs; docs/GUIDE.md shows how a
- * host uses it, docs/RULES.md has every rule.
+ * host uses it, docs/RULES.md has every rule, docs/CHANGES.md says what a later version may change.
  *
- * Plan bytes: two for each node, kind and parent number; nodes are numbered from 0 in the order of the bytes.
- *   kinds: 01 task, 02 serial, 03 and, 04 or, 05 xor, 06 contingency, 07 conditional, 08 waiting and
- *   03 and 08 both need all their children: 03 may abort as soon as one child has, while others run or have not begun;
- *   08 only when every child has committed or aborted. Children of a failed block may still start and end.
- *   node 0 is the root, its parent byte is ff; any other parent number is below the node's own
- *   1 to 160 nodes; a task has no children, a conditional 2, any other block 1 to 32; depth at most 32
+ * PLANS. Two bytes a node, a kind (enum vulcedar_kind) and the number of the parent; nodes are numbered from 0 in the
+ * order of the bytes. Node 0 is the root and has VULCEDAR_NO_PARENT for a parent; a parent stands before its children. A
+ * task has no children, a conditional two, any other block 1 to VULCEDAR_CHILDREN_MOST. A plan has at most
+ * VULCEDAR_NODES_MOST nodes, none deeper than VULCEDAR_DEPTH_MOST; the root has depth 1. All sites of a job need the same
+ * plan, byte for byte, from the job's beginning to its end.
  *
- * Events: 1 start, 2 offer, 3 commit, 4 abort, 5 yes, 6 no, 7 pick, 8 turned down.
- *   offer, pick and turned down are for children of an xor, yes and no for a conditional, the others for every node
- *   pick of a node happens at the site of its parent, every other event at the site of its own node
+ * EVENTS. A code (enum vulcedar_code, named by verbs; marks have participles) and a node. A pick of a node is decided at
+ * the site of the node's parent, any other event at the site of its own node.
  *
- * A row has one byte a node. Code n is bit n-1 of the byte of the event's node. A fresh row is zeros.
+ * ROWS. A row has one byte a node: bit code - 1 of a node's byte is set once the site has heard of that event. A fresh row
+ * is zeros. A row has one owner at a time: two calls on the same row must not run at once, and between them nothing but
+ * these calls may write it.
  *
- * Marks: 0 not started, 1 running, 2 offered, 3 committed, 4 failed, 5 turned down.
- * Retention classes: 0 none, 1 aired (a year), 2 draft (a week), 3 log only (one day).
- *   a block has class 0; a task's class is what a table has for the mark as which the task counts
- *   a committed task counts as mark 5 if a block above it (its parent, and so on up to the root) failed or was turned
- *   down, else as mark 2 if one is not committed, else as mark 3; any other task counts as its own mark
- *   a table is 12 bytes: six frames of mark and class, marks 00 to 05 in order, classes 00 to 03, mark 00 with class 00
- *   the common table is 00 00 01 03 02 03 03 01 04 02 05 02; a house can hand in its own (vulcedar_record_by)
+ * RECORDS. Every node's mark (enum vulcedar_mark) and class (enum vulcedar_class, how long its work is kept). A block has
+ * no class. A task's class is what a table has for the mark as which the task counts: its own mark, unless it committed;
+ * a committed task counts as turned down if a block above it (its parent, and so on up to the root) failed or was turned
+ * down, else as offered if one of them is not committed, else as committed. A table is VULCEDAR_TABLE_LENGTH bytes, each
+ * mark in rising order and behind it its class; not started has no class.
  *
- * Rules: one byte says by which rule an event passes, for a log. Its low hexadecimal digit is the event's code, its high
+ * RULES. One byte says by which rule an event passes, for a log. Its low hexadecimal digit is the event's code, its high
  * digit a kind: for offer, commit, abort, yes and no the kind of the node itself; for start, pick and turned down the kind
- * of its parent; 0 for the root's start, which has no parent. The commit of an xor's child, which goes by the pick alone,
- * is f3. These 37 occur: 01; 12-14; 21-24; 31-34; 41-44; 51-54, 57, 58; 61-64; 71-76; 81-84; f3.
+ * of its parent, 0 for the root. The commit of an xor's child, which goes by the pick alone, is f3. These 37 occur: 01;
+ * 12-14; 21-24; 31-34; 41-44; 51-54, 57, 58; 61-64; 71-76; 81-84; f3.
  *
- * Results are 32 bits:
- *   bits 0-7    the number: 0 passed, else why the call was refused (below)
- *   bits 8-15   the event's site, where an event passed or was refused with 10 or 11; else 0
- *   bits 16-31  a value where the function has one, such as the rule of an event that passed; else 0
+ * RESULTS. Every call but vulcedar_version answers 32 bits:
+ *   bits 0-7    VULCEDAR_NUMBER: an enum vulcedar_number, 0 if the call passed, else why it was refused
+ *   bits 8-15   VULCEDAR_SITE: the event's site; for vulcedar_guard, VULCEDAR_GUARD_RULE: the guard's rule
+ *   bits 16-31  VULCEDAR_VALUE: what the call says there
+ * Bits 8-15 are 0 also where they say nothing, and 0 is a site too, so let the number tell: a result of vulcedar_step, or
+ * of vulcedar_simulate with an event, has a site if its number is VULCEDAR_PASSED, VULCEDAR_BARRED or VULCEDAR_UNMET, and
+ * no other result has one.
+ * The lowest number that fits is answered, unless a call says another order. A later version may have more numbers: take
+ * a number that you do not know as a refusal. A refused call leaves every byte of every buffer as it was.
  *
- * Numbers, with the lowest that fits answered first unless a function says otherwise:
- *    1  plan length odd, 0 or above 320            8  code not 1 to 8, or node or site not in the plan
- *    2  a kind not 01 to 08                        9  the event does not apply to the node
- *    3  root's parent not ff, or another's not     10  barred: it happened already, or what rules it out did
- *       below its own number                       11  the guard does not hold: what it waits for is not heard
- *    4  a parent is a task                         12  message of an event that did not happen (simulation only)
- *    5  wrong number of children                   13  pass: answer of a task or conditional not 1 or 2
- *    6  depth above 32                             14  pass: an xor's answer is no offering child, or 0 while one
- *    7  a buffer has a wrong length                    offers
- *                                                  21  the table of classes is not one (found before 1)
+ * CALLING. No call keeps or allocates anything; each may be called from any thread. Buffers of one call must not overlap,
+ * and nobody else may write them during the call. A length says how many bytes behind the pointer are there; with length 0
+ * nothing is read or written, and the pointer may be null. A call takes at most VULCEDAR_STACK_MOST bytes of stack (measured for the largest plans).
  *
- * A refused call leaves every byte of every buffer as it was. No function keeps or allocates anything; each may be
- * called from any thread. Buffers of one call must not overlap, and nobody else may write them during the call. A
- * pointer must not be null; for a length of 0 any pointer will do.
+ * MACHINES. The library is compiled for x86-64 Linux with glibc (any x86-64 processor; position independent code). Of the
+ * C library it needs memcpy and memset.
  */
 #ifndef VULCEDAR_H
 #define VULCEDAR_H
@@ -61,18 +56,102 @@
 extern "C" {
 #endif
 
-#define VULCEDAR_NUMBER(r) ((uint32_t)(r) & 0xffu)
-#define VULCEDAR_SITE(r) ((uint32_t)(r) >> 8 & 0xffu)
-#define VULCEDAR_VALUE(r) ((uint32_t)(r) >> 16)
+/* The version of this header. vulcedar_version() is that of the library that is linked. */
+#define VULCEDAR_VERSION_MAJOR 1
+#define VULCEDAR_VERSION_MINOR 0
+#define VULCEDAR_VERSION_PATCH 0
+#define VULCEDAR_VERSION (65536u * VULCEDAR_VERSION_MAJOR + 256u * VULCEDAR_VERSION_MINOR + VULCEDAR_VERSION_PATCH)
+
+enum vulcedar_kind {
+    VULCEDAR_TASK = 1,        /* does work: commits or aborts */
+    VULCEDAR_SERIAL = 2,      /* children one after another, as long as they commit */
+    VULCEDAR_AND = 3,         /* all children side by side, all must commit; may abort as soon as one has */
+    VULCEDAR_OR = 4,          /* all children side by side, one must commit; waits for all of them */
+    VULCEDAR_XOR = 5,         /* children offer, one is picked and commits, other offers are turned down */
+    VULCEDAR_CONTINGENCY = 6, /* children one after another, until one commits */
+    VULCEDAR_CONDITIONAL = 7, /* answers yes (first child) or no (second child) */
+    VULCEDAR_WAITING_AND = 8  /* as VULCEDAR_AND, but aborts only when every child has committed or aborted */
+};
+
+enum vulcedar_code {
+    VULCEDAR_START = 1,  /* of any node, as commit and abort */
+    VULCEDAR_OFFER = 2,  /* of a child of an xor, as pick and turn-down */
+    VULCEDAR_COMMIT = 3,
+    VULCEDAR_ABORT = 4,
+    VULCEDAR_YES = 5,    /* of a conditional, as no */
+    VULCEDAR_NO = 6,
+    VULCEDAR_PICK = 7,
+    VULCEDAR_TURN_DOWN = 8
+};
+
+enum vulcedar_mark {
+    VULCEDAR_NOT_STARTED = 0,
+    VULCEDAR_RUNNING = 1,
+    VULCEDAR_OFFERED = 2,
+    VULCEDAR_COMMITTED = 3,
+    VULCEDAR_FAILED = 4,
+    VULCEDAR_TURNED_DOWN = 5
+};
+
+enum vulcedar_class {
+    VULCEDAR_NO_CLASS = 0, /* nothing is kept */
+    VULCEDAR_AIRED = 1,    /* kept a year */
+    VULCEDAR_DRAFT = 2,    /* a week */
+    VULCEDAR_LOG_ONLY = 3  /* a day */
+};
+
+enum vulcedar_number {
+    VULCEDAR_PASSED = 0,
+    VULCEDAR_BAD_LENGTH = 1,     /* the plan has no byte, an odd number of them, or more than 320 */
+    VULCEDAR_BAD_KIND = 2,       /* a node's kind is none */
+    VULCEDAR_BAD_PARENT = 3,     /* the root has a parent, or a node's parent does not stand before it */
+    VULCEDAR_TASK_PARENT = 4,    /* a task has a child */
+    VULCEDAR_BAD_CHILDREN = 5,   /* a block has too few or too many children */
+    VULCEDAR_TOO_DEEP = 6,       /* a node lies deeper than 32 */
+    VULCEDAR_BAD_BUFFER = 7,     /* a buffer has not the length that the call says */
+    VULCEDAR_NOT_IN_PLAN = 8,    /* there is no such code, or the plan has no such node or site */
+    VULCEDAR_NOT_APPLICABLE = 9, /* the node has no such event */
+    VULCEDAR_BARRED = 10,        /* it happened already, or something that rules it out did; this will not change */
+    VULCEDAR_UNMET = 11,         /* the site has not heard all that the event waits for; this may change */
+    VULCEDAR_NOT_HAPPENED = 12,  /* simulation: the message tells of something that did not happen */
+    VULCEDAR_BAD_ANSWER = 13,    /* pass: a task or a conditional that it comes to has another answer than 1 and 2 */
+    VULCEDAR_BAD_PICK = 14,      /* pass: an xor's answer names no child that offers though one does, or names one though none does */
+    VULCEDAR_BAD_TEXT = 15,      /* the text of a simulation is not one */
+    VULCEDAR_BAD_TABLE = 21      /* the table of classes is not one; found before the plan's own numbers */
+};
+
+/* The parts of a result r, a uint32_t. */
+#define VULCEDAR_NUMBER(r) ((r) & 0xffu)
+#define VULCEDAR_SITE(r) ((r) >> 8 & 0xffu)
+#define VULCEDAR_VALUE(r) ((r) >> 16)
 
 /* The rule in a result of vulcedar_rule, and in one of vulcedar_step or vulcedar_simulate whose event passed. */
-#define VULCEDAR_RULE(r) ((uint32_t)(r) >> 16 & 0xffu)
+#define VULCEDAR_RULE(r) ((r) >> 16 & 0xffu)
+
+/* The rule in a result of vulcedar_guard that passed. */
+#define VULCEDAR_GUARD_RULE(r) ((r) >> 8 & 0xffu)
+
+/* The parent byte of the root. */
+#define VULCEDAR_NO_PARENT 0xffu
 
 /* The site of vulcedar_simulate that stands for "the event happens". */
 #define VULCEDAR_HAPPENS 0xffu
 
-/* A guard never has more bytes than this. */
+/* Limits. No guard has more bytes than VULCEDAR_GUARD_MOST. */
+#define VULCEDAR_NODES_MOST 160u
+#define VULCEDAR_CHILDREN_MOST 32u
+#define VULCEDAR_DEPTH_MOST 32u
 #define VULCEDAR_GUARD_MOST 290u
+#define VULCEDAR_TABLE_LENGTH 12u
+#define VULCEDAR_STACK_MOST 8192u
+
+/* The common table, to initialise VULCEDAR_TABLE_LENGTH bytes: static const uint8_t table[] = VULCEDAR_COMMON_TABLE; */
+#define VULCEDAR_COMMON_TABLE { \
+    VULCEDAR_NOT_STARTED, VULCEDAR_NO_CLASS, VULCEDAR_RUNNING, VULCEDAR_LOG_ONLY, VULCEDAR_OFFERED, VULCEDAR_LOG_ONLY, \
+    VULCEDAR_COMMITTED, VULCEDAR_AIRED, VULCEDAR_FAILED, VULCEDAR_DRAFT, VULCEDAR_TURNED_DOWN, VULCEDAR_DRAFT }
+
+/* The version of the library: 65536 times the major number, 256 times the minor one and the patch number, added up. */
+uint32_t vulcedar_version(void);
 
 /* Checks a plan: 0, or 1 to 6. Its time grows with the number of nodes and no faster, so that an editor can check at every key. */
 uint32_t vulcedar_check(const uint8_t *plan, size_t plan_len);
@@ -86,58 +165,60 @@ uint32_t vulcedar_rewrite(const uint8_t *plan, size_t plan_len, uint8_t *out, si
 
 /*
  * Checks a plan and tells how deep every node lies, for an editor that shows the tree while it is typed. depths has one
- * byte a node; on 0 the root's is 1 and any other node's is one more than its parent's, at most 32. The number is the one
- * that vulcedar_check gives the plan, 1 to 6; where that would be 0 and depths_len is not the number of nodes, it is 7.
- * depths is written only on 0.
+ * byte a node; on 0 the root's is 1 and any other node's is one more than its parent's. The number is the one that
+ * vulcedar_check gives the plan, 1 to 6; where that would be 0 and depths_len is not the number of nodes, it is 7. depths
+ * is written only on 0.
  */
 uint32_t vulcedar_check_depths(const uint8_t *plan, size_t plan_len, uint8_t *depths, size_t depths_len);
 
 /*
  * Writes what an event waits for to the front of buf: the number of clauses; for each clause its number of events, then
- * code and node of each. A clause holds if one of its events is heard, the guard if all its clauses do. The value is the
- * guard's length; the bytes of buf behind it are left. 1 to 6, 8, 9, then 7 if buf is too short for this guard.
+ * code and node of each. A clause holds if one of its events is heard, the guard if all its clauses do. On 0 the value is
+ * the guard's length and bits 8-15 are its rule; the bytes of buf behind the guard are left. 1 to 6, 8, 9, then 7 if buf
+ * is too short for this guard.
  */
 uint32_t vulcedar_guard(const uint8_t *plan, size_t plan_len, uint32_t code, uint32_t node, uint8_t *buf, size_t buf_len);
 
 /*
- * The rule of an event, whether or not it can happen now: the value is the rule byte (above). 1 to 6, 8, 9. It reads the
- * plan and nothing else.
+ * The rule of an event, whether or not it can happen now: the value is the rule byte. 1 to 6, 8, 9. It reads the plan and
+ * nothing else.
  */
 uint32_t vulcedar_rule(const uint8_t *plan, size_t plan_len, uint32_t code, uint32_t node);
 
 /*
  * An event wants to happen at its site. row is the row of that site: of the node itself, for a pick that of the node's
- * parent. If it passes, its bit is set in row; store the row before you tell anyone. The value is the event's rule if it
- * passes, as vulcedar_rule gives it, and 0 if it is refused. 1 to 11.
+ * parent; another row cannot be noticed. If the event passes, its bit is set in row; store the row before you tell anyone.
+ * The value is the event's rule if it passes, and 0 if it is refused. 1 to 11.
  */
 uint32_t vulcedar_step(const uint8_t *plan, size_t plan_len, uint32_t code, uint32_t node, uint8_t *row, size_t row_len);
 
 /*
- * A site hears of an event: its bit is set in row, the row of the site that hears. A repeat changes nothing. Whether the
- * message is true is for the host to vouch for. 1 to 9.
+ * A site hears of an event: its bit is set in row, the row of the site that hears. A repeat changes nothing. The message
+ * is believed: tell a site only of events that passed (docs/GUIDE.md, "A host's two rules"). 1 to 9.
  */
 uint32_t vulcedar_hear(const uint8_t *plan, size_t plan_len, uint32_t code, uint32_t node, uint8_t *row, size_t row_len);
 
 /*
- * The single pass: from one answer byte a node to every node's mark. Read at a task: 1 works, 2 fails; at a conditional:
- * 1 yes, 2 no; at an xor: the place, from 1, of the picked child, 0 if none offers; read only where the pass gets to.
- * 1 to 7, then the first of 13 and 14 that is met. marks is written only on 0.
+ * The single pass: what becomes of every node, once it is known how the tasks end and what is decided. answers has one
+ * byte a node; the pass looks at those of the nodes that it comes to: for a task whether it works (1) or fails (2), for a
+ * conditional whether it says yes (1) or no (2), for an xor which of its children is picked, counted from 1, and 0 where
+ * none of them offers. 1 to 7, then the first of 13 and 14 that is met. marks is written only on 0.
  */
 uint32_t vulcedar_pass(const uint8_t *plan, size_t plan_len, const uint8_t *answers, size_t answers_len, uint8_t *marks,
                        size_t marks_len);
 
 /*
  * A step of a simulation of all sites. state has the rows of all sites one after another, nodes times nodes bytes, zeros
- * at first. site 0xff: the event happens, at its own site; any other site hears of it, refused with 12 unless it
- * happened. The value is the rule of an event that passes; it is 0 for a refusal, and for a message, passed or not.
+ * at first. site VULCEDAR_HAPPENS: the event happens, at its own site; any other site hears of it, refused with 12 unless
+ * it happened. The value is the rule of an event that passes; it is 0 for a refusal, and for a message, passed or not.
  * 1 to 12.
  */
 uint32_t vulcedar_simulate(const uint8_t *plan, size_t plan_len, uint32_t code, uint32_t node, uint32_t site, uint8_t *state,
                            size_t state_len);
 
 /*
- * The record of a simulation: every node's mark by its own site's row, and its class by the common table. marks and
- * classes have one byte a node. 1 to 7.
+ * The record of a simulation, or of all rows side by side: every node's mark by its own site's row, and its class by the
+ * common table. marks and classes have one byte a node and are written only on 0. 1 to 7.
  */
 uint32_t vulcedar_record(const uint8_t *plan, size_t plan_len, const uint8_t *state, size_t state_len, uint8_t *marks,
                          size_t marks_len, uint8_t *classes, size_t classes_len);
@@ -150,10 +231,20 @@ uint32_t vulcedar_record(const uint8_t *plan, size_t plan_len, const uint8_t *st
 uint32_t vulcedar_central(const uint8_t *plan, size_t plan_len, uint32_t code, uint32_t node, uint8_t *marks, size_t marks_len,
                           uint8_t *notes, size_t notes_len);
 
+/* Checks a table of classes, as every call that takes one does: 0, or 21 if it is not what RECORDS above says. */
+uint32_t vulcedar_check_table(const uint8_t *table, size_t table_len);
+
 /*
- * The same record, classed by the house's own table: 12 bytes, six frames of mark and class (above). 21 if the table has
- * another length, its marks are not 00 to 05 in order, a class is above 03, or mark 00 has another class than 00; then 1
- * to 7. marks and classes are written only on 0.
+ * The record of the single pass: the marks of vulcedar_pass for these answers, classed by a table. There is no table of
+ * its own: hand in the common one or the house's. 21, then 1 to 7, then the first of 13 and 14 that is met. marks and
+ * classes are written only on 0.
+ */
+uint32_t vulcedar_pass_record(const uint8_t *plan, size_t plan_len, const uint8_t *table, size_t table_len, const uint8_t *answers,
+                              size_t answers_len, uint8_t *marks, size_t marks_len, uint8_t *classes, size_t classes_len);
+
+/*
+ * The record of vulcedar_record, classed by the house's own table: 21 if vulcedar_check_table refuses it, then 1 to 7.
+ * marks and classes are written only on 0.
  */
 uint32_t vulcedar_record_by(const uint8_t *plan, size_t plan_len, const uint8_t *table, size_t table_len, const uint8_t *state,
                             size_t state_len, uint8_t *marks, size_t marks_len, uint8_t *classes, size_t classes_len);

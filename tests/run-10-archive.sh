@@ -2,5 +2,6 @@
 # Builds target/staticlib/libvulcedar.a, which the other checks here link.
 set -euo pipefail
 cd "$(dirname "$0")/.."
+sh packaging/need.sh rt
 rt staticlib vulcedar
 test -s target/staticlib/libvulcedar.a

@@ -1,19 +1,33 @@
 #!/usr/bin/env bash
-# The example host in C: compiled with every warning an error, run under the sanitizers for many seeds, each with the plan as it is and as an old one, and once under valgrind where it is there.
+# The C interface from outside, compiled with every warning an error. The header: what it says about calling, as C under the sanitizers and as C++; how much stack a call takes. The guide's table of whom to tell. The example host: run under the sanitizers for many seeds, each with the plan as it is and as an old one, and once under valgrind where it is there.
 set -euo pipefail
 cd "$(dirname "$0")/.."
+sh packaging/need.sh gcc g++
 out=target/host
 mkdir -p "$out"
-flags=(-std=c99 -Wall -Wextra -Werror -Iinclude)
-gcc "${flags[@]}" -O1 -g -fsanitize=address,undefined -fno-sanitize-recover=all examples/host.c target/staticlib/libvulcedar.a -o "$out/host-san"
-gcc "${flags[@]}" -O2 examples/host.c target/staticlib/libvulcedar.a -o "$out/host"
-g++ -Wall -Wextra -Werror -fsyntax-only -x c++ include/vulcedar.h
+archive=target/staticlib/libvulcedar.a
+flags=(-Wall -Wextra -Wpedantic -Wconversion -Werror -Iinclude)
+san=(-O1 -g -fsanitize=address,undefined -fno-sanitize-recover=all)
+
+gcc -std=c99 "${flags[@]}" "${san[@]}" tests/header.c "$archive" -o "$out/header"
+g++ -std=c++11 "${flags[@]}" -Wold-style-cast -Wuseless-cast -x c++ tests/header.c -x none "$archive" -o "$out/header-cpp"
+"$out/header"
+"$out/header-cpp" > /dev/null
+gcc -std=c11 "${flags[@]}" -O2 -Wl,-z,now tests/stack.c "$archive" -o "$out/stack"
+"$out/stack"
+gcc -std=c99 "${flags[@]}" -O2 tests/tell.c "$archive" -o "$out/tell"
+"$out/tell"
+
+gcc -std=c99 "${flags[@]}" "${san[@]}" examples/host.c "$archive" -o "$out/host-san"
+gcc -std=c99 "${flags[@]}" -O2 examples/host.c "$archive" -o "$out/host"
 for seed in $(seq 1 50); do
   timeout 60 "$out/host-san" "$seed" > "$out/$seed.txt" || { tail -n 5 "$out/$seed.txt"; exit 1; }
   timeout 60 "$out/host-san" "$seed" old > "$out/$seed-old.txt" || { tail -n 5 "$out/$seed-old.txt"; exit 1; }
 done
 if command -v valgrind > /dev/null; then
   valgrind -q --error-exitcode=1 --leak-check=full "$out/host" 7 > "$out/valgrind.txt"
+else
+  echo "host: not run under valgrind, which is not there"
 fi
 tail -n 22 "$out/1.txt"
 echo "host: 100 jobs over a bad line, every end record is the pass's"

@@ -2,10 +2,7 @@
 # The independent reference: its own tests, then the archive (and the program rehearse, once it is built) against it.
 set -euo pipefail
 cd "$(dirname "$0")/.."
-if ! command -v cargo > /dev/null; then
-  apt-get update -q > /dev/null
-  apt-get install -y -q cargo rustc > /dev/null
-fi
+sh packaging/need.sh cargo
 export CARGO_TARGET_DIR="$PWD/target/cargo" CARGO_NET_OFFLINE=true
 cd tests
 cargo test --release --offline --quiet

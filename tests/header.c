@@ -1,0 +1,137 @@
+/*
+ * What include/vulcedar.h and docs/GUIDE.md say about calling, tried: null pointers with length 0, where a result has a
+ * site, the rule beside a guard, the common table, the version, and what a false message does. Compiled as C and as C++.
+ */
+#include <inttypes.h>
+#include <stdio.h>
+#include <stdlib.h>
+#include <string.h>
+
+#include "vulcedar.h"
+
+static int wrong;
+
+static void expect(const char *what, uint32_t is, uint32_t should)
+{
+    if (is == should) return;
+    printf("header: %s is %08" PRIx32 ", not %08" PRIx32 "\n", what, is, should);
+    wrong++;
+}
+
+/* A result from its parts. */
+static uint32_t result(uint32_t number, uint32_t middle, uint32_t value) { return number + 256u * middle + 65536u * value; }
+
+/* Every pointer null, every length 0; then, behind a plan that is one, every other buffer null. */
+static void nulls(void)
+{
+    static const uint8_t plan[] = { VULCEDAR_TASK, VULCEDAR_NO_PARENT };
+    static const uint8_t table[] = VULCEDAR_COMMON_TABLE;
+    expect("check of nothing", vulcedar_check(NULL, 0), VULCEDAR_BAD_LENGTH);
+    expect("rewrite of nothing", vulcedar_rewrite(NULL, 0, NULL, 0), VULCEDAR_BAD_LENGTH);
+    expect("depths of nothing", vulcedar_check_depths(NULL, 0, NULL, 0), VULCEDAR_BAD_LENGTH);
+    expect("guard of nothing", vulcedar_guard(NULL, 0, VULCEDAR_START, 0, NULL, 0), VULCEDAR_BAD_LENGTH);
+    expect("rule of nothing", vulcedar_rule(NULL, 0, VULCEDAR_START, 0), VULCEDAR_BAD_LENGTH);
+    expect("step of nothing", vulcedar_step(NULL, 0, VULCEDAR_START, 0, NULL, 0), VULCEDAR_BAD_LENGTH);
+    expect("hear of nothing", vulcedar_hear(NULL, 0, VULCEDAR_START, 0, NULL, 0), VULCEDAR_BAD_LENGTH);
+    expect("pass of nothing", vulcedar_pass(NULL, 0, NULL, 0, NULL, 0), VULCEDAR_BAD_LENGTH);
+    expect("simulate of nothing", vulcedar_simulate(NULL, 0, VULCEDAR_START, 0, 0, NULL, 0), VULCEDAR_BAD_LENGTH);
+    expect("record of nothing", vulcedar_record(NULL, 0, NULL, 0, NULL, 0, NULL, 0), VULCEDAR_BAD_LENGTH);
+    expect("central of nothing", vulcedar_central(NULL, 0, VULCEDAR_START, 0, NULL, 0, NULL, 0), VULCEDAR_BAD_LENGTH);
+    expect("table of nothing", vulcedar_check_table(NULL, 0), VULCEDAR_BAD_TABLE);
+    expect("record by no table", vulcedar_record_by(NULL, 0, NULL, 0, NULL, 0, NULL, 0, NULL, 0), VULCEDAR_BAD_TABLE);
+    expect("record by a table", vulcedar_record_by(NULL, 0, table, sizeof table, NULL, 0, NULL, 0, NULL, 0), VULCEDAR_BAD_LENGTH);
+    expect("pass's record by no table", vulcedar_pass_record(NULL, 0, NULL, 0, NULL, 0, NULL, 0, NULL, 0), VULCEDAR_BAD_TABLE);
+    expect("pass's record by a table", vulcedar_pass_record(NULL, 0, table, sizeof table, NULL, 0, NULL, 0, NULL, 0), VULCEDAR_BAD_LENGTH);
+
+    expect("rewrite into nothing", vulcedar_rewrite(plan, sizeof plan, NULL, 0), VULCEDAR_BAD_BUFFER);
+    expect("depths into nothing", vulcedar_check_depths(plan, sizeof plan, NULL, 0), VULCEDAR_BAD_BUFFER);
+    expect("guard into nothing", vulcedar_guard(plan, sizeof plan, VULCEDAR_START, 0, NULL, 0), VULCEDAR_BAD_BUFFER);
+    expect("step on nothing", vulcedar_step(plan, sizeof plan, VULCEDAR_START, 0, NULL, 0), VULCEDAR_BAD_BUFFER);
+    expect("hear on nothing", vulcedar_hear(plan, sizeof plan, VULCEDAR_START, 0, NULL, 0), VULCEDAR_BAD_BUFFER);
+    expect("pass without answers", vulcedar_pass(plan, sizeof plan, NULL, 0, NULL, 0), VULCEDAR_BAD_BUFFER);
+    expect("simulate on nothing", vulcedar_simulate(plan, sizeof plan, VULCEDAR_START, 0, VULCEDAR_HAPPENS, NULL, 0), VULCEDAR_BAD_BUFFER);
+    expect("record of no state", vulcedar_record(plan, sizeof plan, NULL, 0, NULL, 0, NULL, 0), VULCEDAR_BAD_BUFFER);
+    expect("central on nothing", vulcedar_central(plan, sizeof plan, VULCEDAR_START, 0, NULL, 0, NULL, 0), VULCEDAR_BAD_BUFFER);
+    expect("record by table of no state", vulcedar_record_by(plan, sizeof plan, table, sizeof table, NULL, 0, NULL, 0, NULL, 0), VULCEDAR_BAD_BUFFER);
+    expect("pass's record without answers", vulcedar_pass_record(plan, sizeof plan, table, sizeof table, NULL, 0, NULL, 0, NULL, 0), VULCEDAR_BAD_BUFFER);
+}
+
+/* An xor of two tasks: the parts of results, site 0 among them. */
+static void parts(void)
+{
+    static const uint8_t plan[] = { VULCEDAR_XOR, VULCEDAR_NO_PARENT, VULCEDAR_TASK, 0, VULCEDAR_TASK, 0 };
+    uint8_t row0[3] = { 0, 0, 0 }, row1[3] = { 0, 0, 0 }, state[9], buf[VULCEDAR_GUARD_MOST];
+    memset(state, 0, sizeof state);
+    expect("early start of 1", vulcedar_step(plan, sizeof plan, VULCEDAR_START, 1, row1, 3), result(VULCEDAR_UNMET, 1, 0));
+    expect("early pick of 1", vulcedar_step(plan, sizeof plan, VULCEDAR_PICK, 1, row0, 3), result(VULCEDAR_UNMET, 0, 0));
+    expect("start of 0", vulcedar_step(plan, sizeof plan, VULCEDAR_START, 0, row0, 3), result(VULCEDAR_PASSED, 0, 0x01));
+    expect("second start of 0", vulcedar_step(plan, sizeof plan, VULCEDAR_START, 0, row0, 3), result(VULCEDAR_BARRED, 0, 0));
+    expect("offer of 0", vulcedar_step(plan, sizeof plan, VULCEDAR_OFFER, 0, row0, 3), result(VULCEDAR_NOT_APPLICABLE, 0, 0));
+    expect("message to 1", vulcedar_hear(plan, sizeof plan, VULCEDAR_START, 0, row1, 3), result(VULCEDAR_PASSED, 0, 0));
+    expect("start of 1", vulcedar_step(plan, sizeof plan, VULCEDAR_START, 1, row1, 3), result(VULCEDAR_PASSED, 1, 0x51));
+    expect("simulated start of 0", vulcedar_simulate(plan, sizeof plan, VULCEDAR_START, 0, VULCEDAR_HAPPENS, state, 9), result(VULCEDAR_PASSED, 0, 0x01));
+    expect("simulated message", vulcedar_simulate(plan, sizeof plan, VULCEDAR_START, 0, 1, state, 9), result(VULCEDAR_PASSED, 0, 0));
+    expect("simulated false message", vulcedar_simulate(plan, sizeof plan, VULCEDAR_START, 1, 0, state, 9), result(VULCEDAR_NOT_HAPPENED, 0, 0));
+    for (uint32_t node = 0; node < 3; node++)
+        for (uint32_t code = VULCEDAR_START; code <= VULCEDAR_TURN_DOWN; code++) {
+            uint32_t rule = vulcedar_rule(plan, sizeof plan, code, node);
+            uint32_t guard = vulcedar_guard(plan, sizeof plan, code, node, buf, sizeof buf);
+            expect("number of rule and guard", VULCEDAR_NUMBER(guard), VULCEDAR_NUMBER(rule));
+            if (VULCEDAR_NUMBER(rule) == VULCEDAR_PASSED) expect("rule of a guard", VULCEDAR_GUARD_RULE(guard), VULCEDAR_RULE(rule));
+            else expect("refused guard", guard, rule);
+        }
+}
+
+/* The common table: what a record has without one. */
+static void tables(void)
+{
+    static const uint8_t plan[] = { VULCEDAR_XOR, VULCEDAR_NO_PARENT, VULCEDAR_SERIAL, 0, VULCEDAR_TASK, 1, VULCEDAR_TASK, 0 };
+    static const uint8_t answers[] = { 2, 0, 1, 1 };
+    static const uint8_t ends[] = { VULCEDAR_COMMITTED, VULCEDAR_TURNED_DOWN, VULCEDAR_COMMITTED, VULCEDAR_COMMITTED };
+    static const uint8_t kept[] = { VULCEDAR_NO_CLASS, VULCEDAR_NO_CLASS, VULCEDAR_DRAFT, VULCEDAR_AIRED };
+    uint8_t table[VULCEDAR_TABLE_LENGTH] = VULCEDAR_COMMON_TABLE, marks[4], classes[4];
+    expect("the common table", vulcedar_check_table(table, sizeof table), VULCEDAR_PASSED);
+    expect("the pass's record", vulcedar_pass_record(plan, sizeof plan, table, sizeof table, answers, 4, marks, 4, classes, 4), VULCEDAR_PASSED);
+    expect("its marks", memcmp(marks, ends, 4) == 0, 1);
+    expect("its classes", memcmp(classes, kept, 4) == 0, 1);
+    table[1] = VULCEDAR_DRAFT;
+    expect("a table that keeps what was not started", vulcedar_check_table(table, sizeof table), VULCEDAR_BAD_TABLE);
+    expect("a table of 11 bytes", vulcedar_check_table(table, sizeof table - 1), VULCEDAR_BAD_TABLE);
+}
+
+/* Task 1, then task 2: site 2 is told that 1 committed, which it did not, and the block commits without it. */
+static void false_message(void)
+{
+    static const uint8_t plan[] = { VULCEDAR_SERIAL, VULCEDAR_NO_PARENT, VULCEDAR_TASK, 0, VULCEDAR_TASK, 0 };
+    static const uint8_t ends[] = { VULCEDAR_COMMITTED, VULCEDAR_NOT_STARTED, VULCEDAR_COMMITTED };
+    uint8_t rows[3][3], state[9], marks[3], classes[3], pass[3], answers[3] = { 0, 0, 0 };
+    memset(rows, 0, sizeof rows);
+    memset(state, 0, sizeof state);
+    expect("start of the block", VULCEDAR_NUMBER(vulcedar_step(plan, sizeof plan, VULCEDAR_START, 0, rows[0], 3)), VULCEDAR_PASSED);
+    expect("start of 2 without a message", VULCEDAR_NUMBER(vulcedar_step(plan, sizeof plan, VULCEDAR_START, 2, rows[2], 3)), VULCEDAR_UNMET);
+    expect("the false message", vulcedar_hear(plan, sizeof plan, VULCEDAR_COMMIT, 1, rows[2], 3), VULCEDAR_PASSED);
+    expect("start of 2", VULCEDAR_NUMBER(vulcedar_step(plan, sizeof plan, VULCEDAR_START, 2, rows[2], 3)), VULCEDAR_PASSED);
+    expect("commit of 2", VULCEDAR_NUMBER(vulcedar_step(plan, sizeof plan, VULCEDAR_COMMIT, 2, rows[2], 3)), VULCEDAR_PASSED);
+    expect("the true message", vulcedar_hear(plan, sizeof plan, VULCEDAR_COMMIT, 2, rows[0], 3), VULCEDAR_PASSED);
+    expect("commit of the block", VULCEDAR_NUMBER(vulcedar_step(plan, sizeof plan, VULCEDAR_COMMIT, 0, rows[0], 3)), VULCEDAR_PASSED);
+    expect("the record", vulcedar_record(plan, sizeof plan, rows[0], sizeof rows, marks, 3, classes, 3), VULCEDAR_PASSED);
+    expect("its marks", memcmp(marks, ends, 3) == 0, 1);
+    for (answers[1] = 0; answers[1] < 4; answers[1]++)
+        for (answers[2] = 0; answers[2] < 4; answers[2]++) {
+            memset(pass, 0xff, sizeof pass);
+            vulcedar_pass(plan, sizeof plan, answers, 3, pass, 3);
+            expect("no pass ends so", memcmp(marks, pass, 3) == 0, 0);
+        }
+    expect("in a simulation", vulcedar_simulate(plan, sizeof plan, VULCEDAR_COMMIT, 1, 2, state, 9), VULCEDAR_NOT_HAPPENED);
+}
+
+int main(void)
+{
+    expect("the version", vulcedar_version(), VULCEDAR_VERSION);
+    nulls();
+    parts();
+    tables();
+    false_message();
+    if (wrong == 0) printf("header: nulls, parts of results, tables, the version and a false message are as it says\n");
+    return wrong == 0 ? 0 : 1;
+}

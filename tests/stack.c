@@ -1,0 +1,137 @@
+/*
+ * How much stack a call takes: every exported function is called on a painted stack of its own, for plans of 160 nodes as
+ * deep and as wide as they may be, and for every event of them. Prints the deepest of each function; fails if one is
+ * above VULCEDAR_STACK_MOST. Symbols must be bound beforehand (-Wl,-z,now): the loader's own stack is not the library's.
+ */
+#define _GNU_SOURCE
+#include <stdio.h>
+#include <stdlib.h>
+#include <string.h>
+#include <ucontext.h>
+
+#include "vulcedar.h"
+
+enum { NODES = VULCEDAR_NODES_MOST, WORDS = 4 * VULCEDAR_STACK_MOST / sizeof(uint64_t) };
+#define PAINT 0xa5a5a5a5a5a5a5a5u
+
+static uint8_t plan[2 * NODES], row[NODES], marks[NODES], notes[NODES], classes[NODES], answers[NODES], out[2 * NODES];
+static uint8_t state[NODES * NODES], buf[VULCEDAR_GUARD_MOST];
+static const uint8_t table[] = VULCEDAR_COMMON_TABLE;
+static uint32_t nodes, code, node, answer;
+
+static void nothing(void) { answer = 0; }
+static void check(void) { answer = vulcedar_check(plan, 2 * nodes); }
+static void rewrite(void) { answer = vulcedar_rewrite(plan, 2 * nodes, out, 2 * nodes); }
+static void check_depths(void) { answer = vulcedar_check_depths(plan, 2 * nodes, out, nodes); }
+static void guard(void) { answer = vulcedar_guard(plan, 2 * nodes, code, node, buf, sizeof buf); }
+static void short_guard(void) { answer = vulcedar_guard(plan, 2 * nodes, code, node, buf, sizeof buf - 1); }
+static void rule(void) { answer = vulcedar_rule(plan, 2 * nodes, code, node); }
+static void step(void) { answer = vulcedar_step(plan, 2 * nodes, code, node, row, nodes); }
+static void hear(void) { answer = vulcedar_hear(plan, 2 * nodes, code, node, row, nodes); }
+static void pass(void) { answer = vulcedar_pass(plan, 2 * nodes, answers, nodes, marks, nodes); }
+static void happen(void) { answer = vulcedar_simulate(plan, 2 * nodes, code, node, VULCEDAR_HAPPENS, state, nodes * nodes); }
+static void tell(void) { answer = vulcedar_simulate(plan, 2 * nodes, code, node, 0, state, nodes * nodes); }
+static void record(void) { answer = vulcedar_record(plan, 2 * nodes, state, nodes * nodes, marks, nodes, classes, nodes); }
+static void record_by(void) { answer = vulcedar_record_by(plan, 2 * nodes, table, sizeof table, state, nodes * nodes, marks, nodes, classes, nodes); }
+static void central(void) { answer = vulcedar_central(plan, 2 * nodes, code, node, marks, nodes, notes, nodes); }
+static void check_table(void) { answer = vulcedar_check_table(table, sizeof table); }
+static void pass_record(void) { answer = vulcedar_pass_record(plan, 2 * nodes, table, sizeof table, answers, nodes, marks, nodes, classes, nodes); }
+static void version(void) { answer = vulcedar_version(); }
+
+static struct call { const char *name; void (*run)(void); int events; size_t most; } calls[] = {
+    { "check", check, 0, 0 }, { "rewrite", rewrite, 0, 0 }, { "check_depths", check_depths, 0, 0 },
+    { "guard", guard, 1, 0 }, { "guard (short buffer)", short_guard, 1, 0 }, { "rule", rule, 1, 0 }, { "step", step, 1, 0 },
+    { "hear", hear, 1, 0 }, { "pass", pass, 0, 0 }, { "simulate (event)", happen, 1, 0 }, { "simulate (message)", tell, 1, 0 },
+    { "record", record, 0, 0 }, { "record_by", record_by, 0, 0 }, { "central", central, 1, 0 },
+    { "check_table", check_table, 0, 0 }, { "pass_record", pass_record, 0, 0 }, { "version", version, 0, 0 },
+};
+enum { CALLS = sizeof calls / sizeof calls[0] };
+
+static _Alignas(64) uint64_t stack[WORDS];
+static ucontext_t here, there;
+
+/* The bytes of a fresh stack that a function touches, in whole words. */
+static size_t touched(void (*run)(void))
+{
+    size_t i = 0;
+    for (size_t k = 0; k < WORDS; k++) stack[k] = PAINT;
+    getcontext(&there);
+    there.uc_stack.ss_sp = stack;
+    there.uc_stack.ss_size = sizeof stack;
+    there.uc_link = &here;
+    makecontext(&there, run, 0);
+    swapcontext(&here, &there);
+    while (i < WORDS && stack[i] == PAINT) i++;
+    return sizeof stack - i * sizeof(uint64_t);
+}
+
+static void measure(struct call *c, size_t none)
+{
+    c->run(); /* once outside, so that nothing is done for the first time */
+    size_t n = touched(c->run) - none;
+    if (n > c->most) c->most = n;
+}
+
+static void add(uint32_t kind, uint32_t parent)
+{
+    plan[2 * nodes] = (uint8_t)kind;
+    plan[2 * nodes + 1] = (uint8_t)parent;
+    nodes++;
+}
+
+/* A chain of blocks as deep as a plan may be, each with `side` tasks before the next; further tasks go to the deepest. */
+static void deep(uint32_t kind, uint32_t side)
+{
+    uint32_t chain[VULCEDAR_DEPTH_MOST] = { VULCEDAR_NO_PARENT };
+    nodes = 0;
+    for (uint32_t d = 1; d < VULCEDAR_DEPTH_MOST; d++) {
+        chain[d] = nodes;
+        add(kind, chain[d - 1]);
+        for (uint32_t k = 0; k < side; k++) add(VULCEDAR_TASK, chain[d]);
+    }
+    if (kind == VULCEDAR_CONDITIONAL) add(VULCEDAR_TASK, nodes - 2);
+    else for (uint32_t k = 0; nodes < NODES; k++) add(VULCEDAR_TASK, chain[VULCEDAR_DEPTH_MOST - 1 - k / 28]);
+}
+
+/* As wide as a plan may be: a root of 32 children, the first four of them blocks with the other tasks. */
+static void wide(uint32_t kind)
+{
+    nodes = 0;
+    add(kind, VULCEDAR_NO_PARENT);
+    while (nodes <= 32) add(nodes <= 4 ? kind : (uint32_t)VULCEDAR_TASK, 0);
+    while (nodes < NODES) add(VULCEDAR_TASK, 1 + (nodes - 33) / 32);
+}
+
+static void measure_plan(size_t none)
+{
+    uint32_t r = vulcedar_check(plan, 2 * nodes);
+    if (r != VULCEDAR_PASSED) printf("stack: a plan is refused with %u\n", r), exit(1);
+    for (size_t c = 0; c < CALLS; c++)
+        for (uint32_t full = 0; full < 2; full++)
+            for (node = 0; node < (calls[c].events ? nodes : 1); node++)
+                for (code = 1; code <= (calls[c].events ? 8 : 1); code++) {
+                    memset(row, full ? 0xff : 0, nodes);
+                    memset(state, full ? 0xff : 0, nodes * nodes);
+                    memset(marks, full ? VULCEDAR_COMMITTED : 0, nodes);
+                    memset(answers, full ? 2 : 1, nodes);
+                    measure(&calls[c], none);
+                }
+}
+
+int main(void)
+{
+    size_t none = touched(nothing), most = 0;
+    for (uint32_t kind = VULCEDAR_SERIAL; kind <= VULCEDAR_WAITING_AND; kind++) {
+        deep(kind, 1), measure_plan(none);
+        if (kind == VULCEDAR_CONDITIONAL) continue;
+        deep(kind, 0), measure_plan(none);
+        deep(kind, 3), measure_plan(none);
+        wide(kind), measure_plan(none);
+    }
+    for (size_t c = 0; c < CALLS; c++) {
+        printf("%-22s %6zu bytes\n", calls[c].name, calls[c].most);
+        if (calls[c].most > most) most = calls[c].most;
+    }
+    printf("stack: a call took at most %zu bytes; the header says %u\n", most, VULCEDAR_STACK_MOST);
+    return most <= VULCEDAR_STACK_MOST ? 0 : 1;
+}
