@@ -4,7 +4,7 @@
 use crate::fixture::{Fixture, PlacedStep};
 use differential::Implementation;
 use differential::driver::Step;
-use differential::tables::USUAL;
+use differential::tables::COMMON;
 use std::hint::black_box;
 
 /// The measured functions.
@@ -86,7 +86,7 @@ impl Work {
             "record_by" => self.repeat(|work| {
                 let fixture = &work.fixture;
                 let plan = black_box(&fixture.plan);
-                subject.record_by(plan, &USUAL, &fixture.state, &mut work.out, &mut work.more)
+                subject.record_by(plan, &COMMON, &fixture.state, &mut work.out, &mut work.more)
             }),
             "guard" => self.guards(subject),
             "rule" => self.rules(subject),

@@ -65,7 +65,7 @@ impl Implementation for Archive {
         vulcedar::central(plan, code, node, marks, notes)
     }
 
-    fn rehearse(&mut self, texts: &[Vec<u8>]) -> Vec<Vec<u8>> {
-        self.program.rehearse(texts)
+    fn print(&mut self, texts: &[Vec<u8>]) -> Vec<Vec<u8>> {
+        self.program.print(texts)
     }
 }

@@ -68,8 +68,8 @@ pub enum Mistake {
     LosersStayOffered,
     /// The record puts offered before turned down.
     OfferedBeforeTurnedDown,
-    /// Blocks are filed as tasks are.
-    BlocksAreFiled,
+    /// Blocks are classed as tasks are.
+    BlocksAreClassed,
     /// The central rule picks a second time.
     CentralPicksTwice,
     /// The central rule has an and wait before it fails.
@@ -110,16 +110,16 @@ pub enum Mistake {
     TableStays,
     /// A table may have any class.
     TableWithAnyClass,
-    /// A table may file what has not begun.
-    TableFilesNothing,
+    /// A table may have a class for what has not begun.
+    TableClassesIdle,
     /// A table's marks may be in any order.
     TableInAnyOrder,
     /// What stands behind a table's twelve bytes is overlooked.
     LongerTable,
     /// The plan is checked before the table.
     PlanBeforeTable,
-    /// By a table of the house, blocks are filed as tasks are.
-    TableFilesBlocks,
+    /// By a table of the house, blocks are classed as tasks are.
+    TableClassesBlocks,
     /// A table before the plan is read and not used.
     TextTableIgnored,
     /// An empty table before the plan is as none.
@@ -143,7 +143,7 @@ pub enum Mistake {
     /// Below a lost block a running task too has the class of a lost one.
     AllTasksOfALostBlock,
     /// Below a lost block a table of the house doesn't count.
-    LostByTheUsualTable,
+    LostByTheCommonTable,
     /// A task below a lost block gets the mark of one that was turned down.
     LostTasksAreMarked,
     /// One level more than there may be.
@@ -192,7 +192,7 @@ impl Mistake {
         Mistake::AnswersReadEverywhere,
         Mistake::LosersStayOffered,
         Mistake::OfferedBeforeTurnedDown,
-        Mistake::BlocksAreFiled,
+        Mistake::BlocksAreClassed,
         Mistake::CentralPicksTwice,
         Mistake::CentralAndWaits,
         Mistake::CentralWaitingAndFailsAtOnce,
@@ -213,11 +213,11 @@ impl Mistake {
         Mistake::TableIgnored,
         Mistake::TableStays,
         Mistake::TableWithAnyClass,
-        Mistake::TableFilesNothing,
+        Mistake::TableClassesIdle,
         Mistake::TableInAnyOrder,
         Mistake::LongerTable,
         Mistake::PlanBeforeTable,
-        Mistake::TableFilesBlocks,
+        Mistake::TableClassesBlocks,
         Mistake::TextTableIgnored,
         Mistake::TextEmptyTable,
         Mistake::TextTwoTables,
@@ -229,7 +229,7 @@ impl Mistake {
         Mistake::OpenBeforeLost,
         Mistake::LostAsFailed,
         Mistake::AllTasksOfALostBlock,
-        Mistake::LostByTheUsualTable,
+        Mistake::LostByTheCommonTable,
         Mistake::LostTasksAreMarked,
         Mistake::OneLevelMore,
         Mistake::ParentsBeforeKinds,
@@ -251,7 +251,7 @@ pub struct Broken {
 impl Broken {
     /// A copy with this mistake.
     pub fn new(mistake: Mistake) -> Broken {
-        Broken { mistake, honest: Reference, has_passed: false, last_table: tables::USUAL }
+        Broken { mistake, honest: Reference, has_passed: false, last_table: tables::COMMON }
     }
 
     fn cut(&self, number: u32) -> u32 {
@@ -310,7 +310,7 @@ impl Broken {
             Mistake::TableWithAnyClass => {
                 table.iter_mut().skip(3).step_by(2).for_each(|class| *class &= 3);
             }
-            Mistake::TableFilesNothing if table.len() > 1 && table[1] <= 3 => table[1] = 0,
+            Mistake::TableClassesIdle if table.len() > 1 && table[1] <= 3 => table[1] = 0,
             Mistake::TableInAnyOrder if table.len() == 12 => {
                 let mut frames: Vec<[u8; 2]> = table.as_chunks().0.to_vec();
                 frames.sort_by_key(|frame| frame[0]);
@@ -354,8 +354,8 @@ impl Broken {
         }
     }
 
-    /// Files tasks below blocks that didn't go through as the mistake does.
-    fn misfile(&self, plan: &[u8], table: &[u8], marks: &mut [u8], classes: &mut [u8]) {
+    /// Classes tasks below blocks that didn't go through as the mistake does.
+    fn misclass(&self, plan: &[u8], table: &[u8], marks: &mut [u8], classes: &mut [u8]) {
         let tree = Tree::new(plan);
         let class = |mark: u8| table[2 * usize::from(mark) + 1];
         let is_lost = |mark: &u8| matches!(mark, 4 | 5);
@@ -377,7 +377,7 @@ impl Broken {
                 Mistake::OpenBeforeLost if committed && open => classes[node] = class(2),
                 Mistake::LostAsFailed if committed && lost => classes[node] = class(4),
                 Mistake::AllTasksOfALostBlock if lost && marks[node] != 0 => classes[node] = class(5),
-                Mistake::LostByTheUsualTable if committed && lost => classes[node] = 2,
+                Mistake::LostByTheCommonTable if committed && lost => classes[node] = 2,
                 Mistake::LostTasksAreMarked if committed && lost => marks[node] = 5,
                 _ => {}
             }
@@ -615,8 +615,8 @@ impl Implementation for Broken {
             Mistake::OfferedBeforeTurnedDown => {
                 marks.iter_mut().filter(|mark| **mark == 5).for_each(|mark| *mark = 2);
             }
-            Mistake::BlocksAreFiled => file_blocks(plan, &tables::USUAL, marks, classes),
-            _ => self.misfile(plan, &tables::USUAL, marks, classes),
+            Mistake::BlocksAreClassed => class_blocks(plan, &tables::COMMON, marks, classes),
+            _ => self.misclass(plan, &tables::COMMON, marks, classes),
         }
         result
     }
@@ -640,8 +640,8 @@ impl Implementation for Broken {
         match self.mistake {
             Mistake::TableStays => self.last_table.copy_from_slice(&seen),
             Mistake::TableIgnored => return self.honest.record(plan, state, marks, classes),
-            Mistake::TableFilesBlocks => file_blocks(plan, &seen, marks, classes),
-            _ => self.misfile(plan, &seen, marks, classes),
+            Mistake::TableClassesBlocks => class_blocks(plan, &seen, marks, classes),
+            _ => self.misclass(plan, &seen, marks, classes),
         }
         result
     }
@@ -664,7 +664,7 @@ impl Implementation for Broken {
         result
     }
 
-    fn rehearse(&mut self, texts: &[Vec<u8>]) -> Vec<Vec<u8>> {
+    fn print(&mut self, texts: &[Vec<u8>]) -> Vec<Vec<u8>> {
         let mistake = self.mistake;
         let one = |text: &Vec<u8>| match mistake {
             Mistake::TextWithReturns => {
@@ -701,7 +701,7 @@ fn plan_before_text(text: &[u8]) -> Vec<u8> {
 }
 
 /// Gives blocks the classes that tasks would have.
-fn file_blocks(plan: &[u8], table: &[u8], marks: &[u8], classes: &mut [u8]) {
+fn class_blocks(plan: &[u8], table: &[u8], marks: &[u8], classes: &mut [u8]) {
     for (node, class) in classes.iter_mut().enumerate().filter(|(node, _)| plan[2 * node] != TASK) {
         *class = table[2 * usize::from(marks[node]) + 1];
     }

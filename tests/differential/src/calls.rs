@@ -1,5 +1,5 @@
 //! Single calls on anything: damaged plans, wrong lengths, strange numbers,
-//! and rows, states, marks and notes that no rehearsal leads to.
+//! and rows, states, marks and notes that no simulation leads to.
 
 use crate::codes::*;
 use crate::driver::{STRANGE, Tree};
@@ -159,7 +159,7 @@ pub fn views<S: Implementation, R: Implementation>(
     }
 }
 
-/// A rehearsal's step, and the record, on any state.
+/// A simulation's step, and the record, on any state.
 pub fn states<S: Implementation, R: Implementation>(
     trial: &mut Trial<S, R>,
     random: &mut Random,

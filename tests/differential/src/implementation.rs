@@ -21,11 +21,11 @@ pub trait Implementation {
     fn hear(&mut self, plan: &[u8], code: u32, node: u32, row: &mut [u8]) -> u32;
     /// The single pass.
     fn pass(&mut self, plan: &[u8], answers: &[u8], marks: &mut [u8]) -> u32;
-    /// A step of a rehearsal.
+    /// A step of a simulation.
     fn simulate(&mut self, plan: &[u8], code: u32, node: u32, site: u32, state: &mut [u8]) -> u32;
     /// The end record.
     fn record(&mut self, plan: &[u8], state: &[u8], marks: &mut [u8], classes: &mut [u8]) -> u32;
-    /// The end record by a filing table that is handed in.
+    /// The end record by a table of classes that is handed in.
     fn record_by(
         &mut self,
         plan: &[u8],
@@ -37,7 +37,7 @@ pub trait Implementation {
     /// The central rule.
     fn central(&mut self, plan: &[u8], code: u32, node: u32, marks: &mut [u8], notes: &mut [u8]) -> u32;
     /// What the program prints for each of these texts.
-    fn rehearse(&mut self, texts: &[Vec<u8>]) -> Vec<Vec<u8>>;
+    fn print(&mut self, texts: &[Vec<u8>]) -> Vec<Vec<u8>>;
 }
 
 /// The reference itself.
@@ -99,7 +99,7 @@ impl Implementation for Reference {
         exported::central(plan, code, node, marks, notes)
     }
 
-    fn rehearse(&mut self, texts: &[Vec<u8>]) -> Vec<Vec<u8>> {
+    fn print(&mut self, texts: &[Vec<u8>]) -> Vec<Vec<u8>> {
         texts.iter().map(|text| reference::rehearse(text)).collect()
     }
 }

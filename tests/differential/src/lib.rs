@@ -3,10 +3,10 @@
 //! The implementation under trial is called the *subject*. Everything is
 //! drawn from a seed, so every run can be repeated.
 //!
-//! * [`plans`], [`tables`], [`driver`] and [`texts`] make plans, filing tables,
-//!   rehearsal steps and rehearsal texts.
+//! * [`plans`], [`tables`], [`driver`] and [`texts`] make plans, tables of classes,
+//!   simulation steps and simulation texts.
 //! * [`trial`] makes one call on both sides and compares all that can be seen.
-//! * [`calls`] tries single calls, [`job`] whole rehearsals, [`texts`] the
+//! * [`calls`] tries single calls, [`job`] whole simulations, [`texts`] the
 //!   program; [`run`] puts them in turn.
 //! * [`broken`] has copies of the reference with one mistake each, to show
 //!   that the comparison can fail.

@@ -84,14 +84,14 @@ fn run_part<S: Implementation, R: Implementation>(trial: &mut Trial<S, R>, seed:
         5 | 21 => calls::states(trial, random, &plan),
         6 => calls::lengths(trial, random, &plan),
         22 => calls::rewrites(trial, random, &plan),
-        7 => job::rehearse(trial, random, &plan),
+        7 => job::simulate(trial, random, &plan),
         8 | 9 => jobs(trial, random, 20, 60, 1),
         10..=15 => jobs(trial, random, 8, 20, 1),
         _ => jobs(trial, random, 1, 8, 4),
     }
 }
 
-/// Rehearsals of plans between two sizes.
+/// Simulations of plans between two sizes.
 fn jobs<S: Implementation, R: Implementation>(
     trial: &mut Trial<S, R>,
     random: &mut Random,
@@ -102,7 +102,7 @@ fn jobs<S: Implementation, R: Implementation>(
     for _ in 0..count {
         let nodes = random.between(least, most);
         let plan = plans::of_size(random, nodes);
-        job::rehearse(trial, random, &plan);
+        job::simulate(trial, random, &plan);
     }
 }
 

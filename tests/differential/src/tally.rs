@@ -34,7 +34,7 @@ pub enum Function {
     Central,
     /// The program `rehearse`; a refused plan or text counts once, otherwise
     /// each step counts.
-    Rehearse,
+    Program,
 }
 
 /// How many functions there are.
@@ -57,7 +57,7 @@ impl Function {
         Function::Record,
         Function::RecordBy,
         Function::Central,
-        Function::Rehearse,
+        Function::Program,
     ];
 
     /// Its name in the table.
@@ -75,12 +75,12 @@ impl Function {
             Function::Record => "record",
             Function::RecordBy => "record_by",
             Function::Central => "central",
-            Function::Rehearse => "rehearse",
+            Function::Program => "program",
         }
     }
 
     /// The numbers it can answer. A text can't have a buffer of a wrong
-    /// length, so `rehearse` has no 7.
+    /// length, so the program has no 7.
     pub fn numbers(self) -> &'static [u8] {
         match self {
             Function::Check => &[0, 1, 2, 3, 4, 5, 6],
@@ -91,15 +91,15 @@ impl Function {
             Function::Simulate => &[0, 1, 2, 3, 4, 5, 6, 7, 8, 9, 10, 11, 12],
             Function::Rewrite | Function::Record | Function::CheckDepths => &[0, 1, 2, 3, 4, 5, 6, 7],
             Function::RecordBy => &[0, 1, 2, 3, 4, 5, 6, 7, 21],
-            Function::Rehearse => &[0, 1, 2, 3, 4, 5, 6, 8, 9, 10, 11, 12, 15, 21],
+            Function::Program => &[0, 1, 2, 3, 4, 5, 6, 8, 9, 10, 11, 12, 15, 21],
         }
     }
 }
 
-/// Counts over whole rehearsals.
+/// Counts over whole simulations.
 #[derive(Default)]
 pub struct Jobs {
-    /// Rehearsals begun.
+    /// Simulations begun.
     pub begun: u64,
     /// Of these, brought to the end.
     pub over: u64,
@@ -136,7 +136,7 @@ pub struct Tally {
     pub not_allowed: u64,
     /// How often an event passed by each rule.
     rules: Rules,
-    /// Counts over whole rehearsals.
+    /// Counts over whole simulations.
     pub jobs: Jobs,
     /// Texts given to the program.
     pub texts: u64,
@@ -230,12 +230,12 @@ impl fmt::Display for Tally {
         writeln!(out, "\ncentral rule: {} allowed, {} not allowed", self.allowed, self.not_allowed)?;
         writeln!(
             out,
-            "rehearsals: {} begun, {} over ({} committed, {} failed; {} of 100 nodes or more)",
+            "simulations: {} begun, {} over ({} committed, {} failed; {} of 100 nodes or more)",
             jobs.begun, jobs.over, jobs.committed, jobs.failed, jobs.large
         )?;
         writeln!(
             out,
-            "            {} events, {} messages, {} agreeing answer lists",
+            "             {} events, {} messages, {} agreeing answer lists",
             jobs.events, jobs.messages, jobs.agreeing
         )?;
         writeln!(out, "rules of passed events: {} different", self.rules())?;

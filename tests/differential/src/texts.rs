@@ -1,4 +1,4 @@
-//! Rehearsal texts for the program: sound ones, damaged ones and noise.
+//! Simulation texts for the program: sound ones, damaged ones and noise.
 
 use crate::codes::number;
 use crate::driver::{Driver, Step, Temper};
@@ -15,8 +15,8 @@ const MOST_BYTES: usize = 32_768;
 /// Gives the program so many texts and compares what it prints.
 pub fn run<S: Implementation, R: Implementation>(trial: &mut Trial<S, R>, random: &mut Random, count: usize) {
     let texts: Vec<Vec<u8>> = (0..count).map(|_| any(random)).collect();
-    let theirs = trial.subject.rehearse(&texts);
-    let ours = trial.reference.rehearse(&texts);
+    let theirs = trial.subject.print(&texts);
+    let ours = trial.reference.print(&texts);
     for ((text, ours), theirs) in texts.iter().zip(&ours).zip(&theirs) {
         count_numbers(trial, text, ours);
         trial.tally.texts += 1;
@@ -37,7 +37,7 @@ fn any(random: &mut Random) -> Vec<u8> {
     }
 }
 
-/// A valid text: a plan and the steps of a rehearsal of it.
+/// A valid text: a plan and the steps of a simulation of it.
 fn sound(random: &mut Random) -> Vec<u8> {
     let most = random.one_of(&[1, 3, 6, 6, 12, 12, 30, 160]);
     let plan = plans::up_to(random, most);
@@ -48,7 +48,7 @@ fn sound(random: &mut Random) -> Vec<u8> {
     [table, text_of(&plan, &steps)].concat()
 }
 
-/// Steps of a rehearsal with numbers of one byte.
+/// Steps of a simulation with numbers of one byte.
 fn steps_of(random: &mut Random, plan: &[u8], most: usize) -> Vec<[u8; 3]> {
     let nodes = plan.len() / 2;
     let mut state = vec![0; nodes * nodes];
@@ -223,7 +223,7 @@ fn count_numbers<S: Implementation, R: Implementation>(trial: &mut Trial<S, R>, 
         let digits = std::str::from_utf8(line).ok();
         let number = digits.and_then(|digits| u8::from_str_radix(digits, 16).ok());
         let number = number.unwrap_or_else(|| panic!("the reference prints numbers for {text:?}"));
-        trial.tally.count(Function::Rehearse, number);
+        trial.tally.count(Function::Program, number);
     }
 }
 

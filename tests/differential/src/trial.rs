@@ -253,7 +253,7 @@ impl<S: Implementation, R: Implementation> Trial<S, R> {
         (ours, self.one.subject.bytes(), self.two.subject.bytes())
     }
 
-    /// A step of a rehearsal on a state of its own.
+    /// A step of a simulation on a state of its own.
     pub fn simulate(&mut self, plan: &[u8], code: u32, node: u32, site: u32, state: &[u8]) -> u32 {
         let mut pair = std::mem::take(&mut self.one);
         pair.load(state);
@@ -262,7 +262,7 @@ impl<S: Implementation, R: Implementation> Trial<S, R> {
         ours
     }
 
-    /// A step of a rehearsal on a state that goes on; answers also whether
+    /// A step of a simulation on a state that goes on; answers also whether
     /// both sides came to the same.
     pub fn simulate_on(
         &mut self,

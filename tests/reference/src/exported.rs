@@ -79,7 +79,7 @@ pub fn pass(plan: &[u8], answers: &[u8], marks: &mut [u8]) -> u32 {
     done(passes::pass(plan, answers, marks))
 }
 
-/// A step of a rehearsal: an event if the site is 255, else a message to
+/// A step of a simulation: an event if the site is 255, else a message to
 /// that site. The value is the rule of an event that passes. 1 to 12.
 #[inline(never)]
 pub fn simulate(plan: &[u8], code: u32, node: u32, site: u32, state: &mut [u8]) -> u32 {
@@ -90,10 +90,10 @@ pub fn simulate(plan: &[u8], code: u32, node: u32, site: u32, state: &mut [u8]) 
     }
 }
 
-/// The end record of a rehearsal's state, by the usual table. 1 to 7.
+/// The end record of a simulation's state, by the common table. 1 to 7.
 #[inline(never)]
 pub fn record(plan: &[u8], state: &[u8], marks: &mut [u8], classes: &mut [u8]) -> u32 {
-    done(records::record(&Table::USUAL, plan, state, marks, classes))
+    done(records::record(&Table::COMMON, plan, state, marks, classes))
 }
 
 /// The end record by a table that is handed in. 21, then 1 to 7.

@@ -1,4 +1,4 @@
-//! The rehearsal of a whole job: all sites' rows, one after another.
+//! The simulation of a whole job: all sites' rows, one after another.
 
 use crate::event::{Event, number_in_plan};
 use crate::plan::Plan;
@@ -9,7 +9,7 @@ use crate::site::{self, Verdict};
 /// hears of it.
 pub const HAPPENS: u32 = 0xff;
 
-/// What became of a step of the rehearsal.
+/// What became of a step of the simulation.
 #[derive(Clone, Copy, Debug, PartialEq, Eq)]
 pub enum Outcome {
     /// An event, tried at its site.

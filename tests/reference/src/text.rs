@@ -1,4 +1,4 @@
-//! A rehearsal from text: what the program `rehearse` prints for what it
+//! A simulation from text: what the program `rehearse` prints for what it
 //! reads. This is the one place that allocates.
 
 use crate::exported::{self, number};
@@ -15,7 +15,7 @@ const DIVIDER: &[u8] = b"--";
 /// Stands after a table, where there is one.
 const TABLE_END: &[u8] = b"==";
 
-/// Runs a rehearsal and answers the program's output.
+/// Runs a simulation and answers the program's output.
 pub fn rehearse(text: &[u8]) -> Vec<u8> {
     let mut output = Vec::new();
     if let Err(cause) = run(text, &mut output) {
@@ -27,7 +27,7 @@ pub fn rehearse(text: &[u8]) -> Vec<u8> {
 
 /// A text taken apart.
 struct Script {
-    /// The bytes of the filing table, if the text has one.
+    /// The bytes of the table of classes, if the text has one.
     table: Option<Vec<u8>>,
     plan: Vec<u8>,
     steps: Vec<[u8; 3]>,
@@ -35,7 +35,7 @@ struct Script {
 
 fn run(text: &[u8], output: &mut Vec<u8>) -> Result<(), Refusal> {
     let script = read(text).ok_or(Refusal::Text)?;
-    let table = script.table.as_deref().map_or(Ok(Table::USUAL), Table::load)?;
+    let table = script.table.as_deref().map_or(Ok(Table::COMMON), Table::load)?;
     let size = Plan::check(&script.plan)?.size();
     let mut state = vec![0; size * size];
     for [code, node, site] in script.steps.iter().map(|step| step.map(u32::from)) {

@@ -53,7 +53,7 @@ fn exported_functions_do_not_allocate() {
     }
     sum += exported::pass(&plan, &answers, &mut marks);
     sum += exported::record(&plan, &state, &mut marks, &mut notes);
-    sum += exported::record_by(&plan, &USUAL_TABLE, &state, &mut marks, &mut notes);
+    sum += exported::record_by(&plan, &COMMON_TABLE, &state, &mut marks, &mut notes);
     assert_eq!(COUNT.get(), before);
     assert_ne!(sum, 0);
 }

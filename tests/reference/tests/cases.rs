@@ -87,7 +87,7 @@ fn depth_32_passes_33_does_not() {
 fn an_only_child_of_an_xor_is_never_turned_down() {
     assert_eq!(guard_bytes(&hex("05ff 0100"), TURNED_DOWN, 1), hex("0201020100"));
     assert_eq!(guard_bytes(&hex("02ff 0100 0500 0102"), TURNED_DOWN, 3), hex("0201020300"));
-    let mut job = Rehearsal::new("05ff 0100");
+    let mut job = Simulation::new("05ff 0100");
     for (code, node) in [(START, 0), (START, 1), (OFFER, 1), (PICK, 1), (COMMIT, 1), (COMMIT, 0)] {
         assert_eq!(number(job.event(TURNED_DOWN, 1)), 11);
         job.all_know(code, node);
@@ -157,7 +157,7 @@ fn children_may_be_scattered() {
 /// A job of plan P from beginning to end, and the pass for it.
 #[test]
 fn a_job_of_plan_p() {
-    let mut job = Rehearsal::new(P);
+    let mut job = Simulation::new(P);
     let events = [
         (START, 0),
         (START, 1),

@@ -1,4 +1,4 @@
-//! Every rehearsal of every small plan: all events and all messages that a
+//! Every simulation of every small plan: all events and all messages that a
 //! guard can notice, in every order. What passes must be a run of the central
 //! rule, what the central rule allows must pass once everybody knows, and
 //! when the job is over the pass must come to the same record.

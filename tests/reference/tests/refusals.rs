@@ -75,7 +75,7 @@ fn plan_refusals_come_first_everywhere() {
                 assert_eq!(simulate(&plan, code, node, 400, &mut lent), expected);
                 assert_eq!(pass(&plan, &[1], &mut lent), expected);
                 assert_eq!(record(&plan, &[1], &mut lent, &mut other), expected);
-                assert_eq!(record_by(&plan, &USUAL_TABLE, &[1], &mut lent, &mut other), expected);
+                assert_eq!(record_by(&plan, &COMMON_TABLE, &[1], &mut lent, &mut other), expected);
                 assert_eq!(record_by(&plan, &[1], &[1], &mut lent, &mut other), 21, "the table first");
                 assert_eq!(central(&plan, code, node, &mut lent, &mut other), expected);
                 assert!(lent.iter().chain(&other).all(|&byte| byte == LEFT));
@@ -215,7 +215,7 @@ fn step_10_and_11_name_the_site_and_leave_the_row() {
 
 #[test]
 fn a_false_message_is_12() {
-    let mut job = Rehearsal::new(P);
+    let mut job = Simulation::new(P);
     assert_eq!(job.message(START, 0, 1), 12);
     assert_eq!(job.message(START, 0, 0), 12);
     assert_eq!(job.state, [0; 36]);
@@ -250,7 +250,7 @@ fn state_length_is_7() {
         assert!(state.iter().all(|&byte| byte == LEFT));
         let (mut marks, mut classes) = ([LEFT; 6], [LEFT; 6]);
         assert_eq!(record(&plan, &state, &mut marks, &mut classes), 7);
-        assert_eq!(record_by(&plan, &USUAL_TABLE, &state, &mut marks, &mut classes), 7);
+        assert_eq!(record_by(&plan, &COMMON_TABLE, &state, &mut marks, &mut classes), 7);
         assert_eq!((marks, classes), ([LEFT; 6], [LEFT; 6]));
     }
 }
@@ -261,7 +261,7 @@ fn record_central_and_pass_lengths_are_7() {
     for (first, second) in [(0, 6), (5, 6), (7, 6), (6, 0), (6, 5), (6, 7), (12, 12)] {
         let (mut one, mut two) = (vec![LEFT; first], vec![LEFT; second]);
         assert_eq!(record(&plan, &[0; 36], &mut one, &mut two), 7);
-        assert_eq!(record_by(&plan, &USUAL_TABLE, &[0; 36], &mut one, &mut two), 7);
+        assert_eq!(record_by(&plan, &COMMON_TABLE, &[0; 36], &mut one, &mut two), 7);
         assert_eq!(record_by(&plan, &[], &[0; 36], &mut one, &mut two), 21);
         assert_eq!(central(&plan, START, 0, &mut one, &mut two), 7);
         assert_eq!(central(&plan, 99, 99, &mut one, &mut two), 7, "7 before 8");

@@ -95,7 +95,7 @@ fn only_what_passes_hands_its_rule_on() {
 /// Along a job: each event passes by its rule.
 #[test]
 fn a_job_with_its_rules() {
-    let mut job = Rehearsal::new("05ff 0300 0100 0101 0101");
+    let mut job = Simulation::new("05ff 0300 0100 0101 0101");
     let events = [
         (START, 0, 0x01),
         (START, 1, 0x51),

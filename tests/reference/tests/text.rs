@@ -1,4 +1,4 @@
-//! Rehearsals from text.
+//! Simulations from text.
 
 mod common;
 
@@ -111,8 +111,8 @@ fn refused_plans_print_their_number_alone() {
     prints(format!("{}--\n", plan_text(&common::chain(33))), "06");
 }
 
-/// The usual table, and one of the house's own.
-const USUAL: &str = "0000 0103 0203 0301 0402 0502 ==";
+/// The common table, and one of the house's own.
+const COMMON: &str = "0000 0103 0203 0301 0402 0502 ==";
 const OWN: &str = "0000 0101 0202 0303 0400 0503 ==";
 
 #[test]
@@ -120,7 +120,7 @@ fn a_table_before_the_plan() {
     let job = "02ff 0100 0100 -- 0100ff 010001 0101ff 0301ff 030102 0102ff 0402ff";
     let numbers = "00 00 00 00 00 00 00";
     prints(lines(job), &format!("{numbers} 00020100 01010303 02010402"));
-    prints(lines(&format!("{USUAL} {job}")), &format!("{numbers} 00020100 01010303 02010402"));
+    prints(lines(&format!("{COMMON} {job}")), &format!("{numbers} 00020100 01010303 02010402"));
     prints(lines(&format!("{OWN} {job}")), &format!("{numbers} 00020100 01010302 02010400"));
     let ends_well = "02ff 0100 -- 0100ff 010001 0101ff 0301ff 030100 0300ff";
     prints(lines(ends_well), "00 00 00 00 00 00 00020300 01010301");
@@ -152,14 +152,14 @@ fn a_refused_table_prints_21_alone() {
 #[test]
 fn where_a_table_may_stand() {
     let malformed = [
-        format!("{USUAL} {USUAL} 01ff --"),
-        format!("{USUAL} == 01ff --"),
+        format!("{COMMON} {COMMON} 01ff --"),
+        format!("{COMMON} == 01ff --"),
         "== == 01ff --".to_string(),
         "01ff -- ==".to_string(),
-        format!("01ff -- {USUAL}"),
-        format!("{USUAL} 01ff -- 0100ff =="),
-        format!("{USUAL} 01ff"),
-        USUAL.to_string(),
+        format!("01ff -- {COMMON}"),
+        format!("{COMMON} 01ff -- 0100ff =="),
+        format!("{COMMON} 01ff"),
+        COMMON.to_string(),
         "==".to_string(),
         "00 0103 0203 0301 0402 0502 == 01ff --".to_string(),
         "000000 0103 0203 0301 0402 0502 == 01ff --".to_string(),
@@ -176,9 +176,9 @@ fn where_a_table_may_stand() {
     prints("==\r\n01ff\n--\n", "0f");
     prints("\n==\n01ff\n--\n", "0f");
     prints("==\n\n01ff\n--\n", "0f");
-    prints(lines(&format!("{USUAL} --")), "01");
-    prints(lines(&format!("{USUAL} 09ff --")), "02");
-    prints(lines(&format!("01ff {USUAL} --")), "15");
+    prints(lines(&format!("{COMMON} --")), "01");
+    prints(lines(&format!("{COMMON} 09ff --")), "02");
+    prints(lines(&format!("01ff {COMMON} --")), "15");
 }
 
 /// One task and 4,680 steps are 32,768 bytes to the last.

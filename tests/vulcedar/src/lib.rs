@@ -64,7 +64,7 @@ pub fn pass(plan: &[u8], answers: &[u8], marks: &mut [u8]) -> u32 {
     }
 }
 
-/// A step of a rehearsal: an event if the site is 255, else a message to
+/// A step of a simulation: an event if the site is 255, else a message to
 /// that site. The value is the rule of an event that passes.
 pub fn simulate(plan: &[u8], code: u32, node: u32, site: u32, state: &mut [u8]) -> u32 {
     // SAFETY: as for `rewrite`.
@@ -73,7 +73,7 @@ pub fn simulate(plan: &[u8], code: u32, node: u32, site: u32, state: &mut [u8]) 
     }
 }
 
-/// The end record of a rehearsal's state.
+/// The end record of a simulation's state.
 pub fn record(plan: &[u8], state: &[u8], marks: &mut [u8], classes: &mut [u8]) -> u32 {
     // SAFETY: as for `rewrite`.
     unsafe {
@@ -90,7 +90,7 @@ pub fn record(plan: &[u8], state: &[u8], marks: &mut [u8], classes: &mut [u8]) -
     }
 }
 
-/// The end record by a filing table that is handed in.
+/// The end record by a table of classes that is handed in.
 pub fn record_by(plan: &[u8], table: &[u8], state: &[u8], marks: &mut [u8], classes: &mut [u8]) -> u32 {
     // SAFETY: as for `rewrite`.
     unsafe {

@@ -18,8 +18,8 @@ pub const HAPPENS: u32 = 0xff;
 /// Plan P of the document.
 pub const P: &str = "02ff 0100 0500 0102 0102 0100";
 
-/// The filing table that is used where none is handed in.
-pub const USUAL_TABLE: [u8; 12] = [0, 0, 1, 3, 2, 3, 3, 1, 4, 2, 5, 2];
+/// The table of classes that is used where none is handed in.
+pub const COMMON_TABLE: [u8; 12] = [0, 0, 1, 3, 2, 3, 3, 1, 4, 2, 5, 2];
 
 /// Bytes from hexadecimal; spaces don't count.
 pub fn hex(text: &str) -> Vec<u8> {
@@ -104,17 +104,17 @@ pub fn pass_marks(plan: &[u8], answers: &[u8]) -> Result<Vec<u8>, u32> {
     }
 }
 
-/// A rehearsal under way.
-pub struct Rehearsal {
+/// A simulation under way.
+pub struct Simulation {
     pub plan: Vec<u8>,
     pub state: Vec<u8>,
 }
 
-impl Rehearsal {
-    pub fn new(plan: &str) -> Rehearsal {
+impl Simulation {
+    pub fn new(plan: &str) -> Simulation {
         let plan = hex(plan);
         let nodes = plan.len() / 2;
-        Rehearsal { plan, state: vec![0; nodes * nodes] }
+        Simulation { plan, state: vec![0; nodes * nodes] }
     }
 
     pub fn nodes(&self) -> u32 {
