@@ -1,6 +1,7 @@
-//! The end record: every node's mark and retention class.
+//! Records: every node's mark and retention class, of a state or of the pass.
 
 use crate::mark::{self, COMMITTED, FAILED, OFFERED, TURNED_DOWN};
+use crate::pass;
 use crate::plan::{Kind, MAX_NODES, Plan};
 use crate::refusal::Refusal;
 use crate::table::{self, Table};
@@ -69,6 +70,26 @@ pub fn record(
     for (node, mark) in marks.iter_mut().enumerate() {
         *mark = mark::of_heard(state[node * size + node]);
     }
+    classify(table, &plan, marks, classes);
+    Ok(())
+}
+
+/// Writes every node's mark as the single pass settles it, and its class by
+/// the table. 1 to 7, then 13 and 14, with both lent lists left; a table is
+/// loaded before, so its 21 comes first.
+pub fn pass_record(
+    table: &Table,
+    plan: &[u8],
+    answers: &[u8],
+    marks: &mut [u8],
+    classes: &mut [u8],
+) -> Result<(), Refusal> {
+    let plan = Plan::check(plan)?;
+    let size = plan.size();
+    if answers.len() != size || marks.len() != size || classes.len() != size {
+        return Err(Refusal::Length);
+    }
+    pass::settle(plan, answers, marks)?;
     classify(table, &plan, marks, classes);
     Ok(())
 }

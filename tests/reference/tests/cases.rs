@@ -3,7 +3,7 @@
 mod common;
 
 use common::*;
-use reference::exported::{check, guard, number, simulate};
+use reference::exported::{check, guard, number, simulate, version};
 
 fn written(code: u32, node: u32) -> Vec<u8> {
     guard_bytes(&hex(P), code, node)
@@ -62,6 +62,11 @@ fn p10_pass_with_the_first_task_failing() {
 #[test]
 fn p9_with_pick_0_is_14() {
     assert_eq!(pass_marks(&hex(P), &[0, 1, 0, 1, 1, 1]), Err(14));
+}
+
+#[test]
+fn the_version_is_1_0_0() {
+    assert_eq!(version(), 65_536);
 }
 
 #[test]

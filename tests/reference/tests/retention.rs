@@ -4,9 +4,6 @@ mod common;
 
 use common::*;
 use reference::exported::{record, record_by};
-use reference::plan::Plan;
-use reference::record::classify;
-use reference::table::Table;
 
 /// A table that tells marks 2, 3 and 5 apart, and 5 from 4.
 const TELLING: [u8; 12] = [0, 0, 1, 0, 2, 1, 3, 2, 4, 0, 5, 3];
@@ -35,10 +32,8 @@ fn a_draft_inside_a_block_that_was_turned_down() {
     let plan = hex("05ff 0200 0101 0100");
     let marks = pass_marks(&plan, &[2, 0, 1, 1]).expect("the answers fit");
     assert_eq!(marks, [3, 5, 3, 3]);
-    let mut classes = [0xee; 4];
-    let checked = Plan::check(&plan).expect("a plan");
-    classify(&Table::COMMON, &checked, &marks, &mut classes);
-    assert_eq!(classes, [0, 0, 2, 1]);
+    let record = Ok((marks, vec![0, 0, 2, 1]));
+    assert_eq!(record_of_pass(&plan, &COMMON_TABLE, &[2, 0, 1, 1]), record);
     let mut job = Simulation::new("05ff 0200 0101 0100");
     let events = [
         (START, 0),
@@ -57,6 +52,19 @@ fn a_draft_inside_a_block_that_was_turned_down() {
         job.all_know(code, node);
     }
     assert_eq!(job.record(), (vec![3, 5, 3, 3], vec![0, 0, 2, 1]));
+}
+
+/// The pass's marks, each with its class by a table that tells all apart.
+#[test]
+fn the_record_of_a_pass() {
+    let by = |plan: &str, answers: &[u8]| record_of_pass(&hex(plan), &TELLING, answers);
+    let both = |marks: &[u8], classes: &[u8]| Ok((marks.to_vec(), classes.to_vec()));
+    assert_eq!(by(P, &[0, 1, 1, 1, 1, 1]), both(&[3, 3, 3, 3, 5, 3], &[0, 2, 0, 2, 3, 2]));
+    assert_eq!(by(P, &[0, 2, 1, 1, 1, 1]), both(&[4, 4, 0, 0, 0, 0], &[0, 0, 0, 0, 0, 0]));
+    assert_eq!(by(P, &[0, 1, 0, 2, 2, 1]), both(&[4, 3, 4, 4, 4, 0], &[0, 3, 0, 0, 0, 0]));
+    assert_eq!(by(P, &[0, 1, 0, 1, 1, 1]), Err(14));
+    assert_eq!(by("01ff", &[1]), both(&[3], &[2]));
+    assert_eq!(by("01ff", &[3]), Err(13));
 }
 
 /// Three blocks above a task, every mark at each of the four.

@@ -3,7 +3,7 @@
 mod common;
 
 use common::*;
-use reference::exported::{record, record_by};
+use reference::exported::{check_table, record, record_by};
 
 /// What becomes of a table in a call that is right otherwise.
 fn loaded(table: &[u8]) -> u32 {
@@ -11,6 +11,7 @@ fn loaded(table: &[u8]) -> u32 {
     let result = record_by(&hex("01ff"), table, &[0], &mut marks, &mut classes);
     let left = if result == 0 { ([0], [0]) } else { ([0xa5], [0xa5]) };
     assert_eq!((marks, classes), left);
+    assert_eq!(check_table(table), result, "the check alone");
     result
 }
 

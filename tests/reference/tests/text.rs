@@ -3,7 +3,7 @@
 mod common;
 
 use common::plan_of;
-use reference::rehearse;
+use reference::{exported, rehearse};
 
 /// Lines from words.
 fn lines(words: &str) -> String {
@@ -13,6 +13,51 @@ fn lines(words: &str) -> String {
 fn prints(input: impl AsRef<[u8]>, words: &str) {
     let output = String::from_utf8(rehearse(input.as_ref())).expect("hexadecimal");
     assert_eq!(output, lines(words));
+    call_gives(input.as_ref(), &output);
+}
+
+/// The call gives the program's lines where there are any, else the number
+/// that the program prints; it leaves every other byte.
+fn call_gives(input: &[u8], output: &str) {
+    let mut out = vec![0xa5; 16_390];
+    let result = exported::rehearse(input, &mut out);
+    let refused = if output.len() == 3 { u32::from_str_radix(output.trim(), 16).ok() } else { None };
+    if let Some(number) = refused {
+        assert_eq!(result, number);
+        assert_eq!(exported::rehearse(input, &mut out[..20]), number, "found before the length");
+        assert!(out.iter().all(|&byte| byte == 0xa5));
+    } else {
+        assert_eq!(result, (output.len() as u32) << 16);
+        assert_eq!(&out[..output.len()], output.as_bytes());
+        assert!(out[output.len()..].iter().all(|&byte| byte == 0xa5));
+    }
+}
+
+/// However short the lines would be, all of the bytes must be lent.
+#[test]
+fn a_short_buffer_is_7() {
+    for length in [0, 1, 9, 100, 16_383] {
+        let mut out = vec![0xa5; length];
+        assert_eq!(exported::rehearse(b"01ff\n--\n", &mut out), 7);
+        assert_eq!(exported::rehearse(b"==\n01ff\n--\n", &mut out), 21);
+        assert_eq!(exported::rehearse(b"09ff\n--\n", &mut out), 2);
+        assert_eq!(exported::rehearse(b"09ff\n--", &mut out), 15);
+        assert!(out.iter().all(|&byte| byte == 0xa5));
+    }
+    let mut out = vec![0xa5; 16_384];
+    assert_eq!(exported::rehearse(b"01ff\n--\n", &mut out), 9 << 16);
+    assert_eq!(&out[..10], b"00010000\n\xa5");
+}
+
+/// No text has more lines than fit: the most bytes come from 160 nodes and
+/// as many steps as there is space for.
+#[test]
+fn the_longest_output() {
+    let plan = plan_text(&plan_of(160));
+    let steps = (32_768 - plan.len() - 3) / 7;
+    let text = format!("{plan}--\n{}", "0100ff\n".repeat(steps));
+    assert_eq!(rehearse(text.as_bytes()).len(), 3 * 4566 + 9 * 160);
+    call_gives(text.as_bytes(), &String::from_utf8(rehearse(text.as_bytes())).expect("hexadecimal"));
 }
 
 /// A plan as lines of text.

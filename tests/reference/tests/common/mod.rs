@@ -81,7 +81,7 @@ pub fn guard_bytes(plan: &[u8], code: u32, node: u32) -> Vec<u8> {
     let mut buffer = [0xee; 300];
     let result = exported::guard(plan, code, node, &mut buffer);
     assert_eq!(exported::number(result), 0, "code {code} node {node}");
-    assert_eq!(exported::site(result), 0);
+    assert_eq!(u32::from(exported::site(result)), exported::value(exported::rule(plan, code, node)));
     let length = exported::value(result) as usize;
     assert!(buffer[length..].iter().all(|&byte| byte == 0xee), "the rest of the buffer stays");
     buffer[..length].to_vec()
@@ -99,6 +99,23 @@ pub fn pass_marks(plan: &[u8], answers: &[u8]) -> Result<Vec<u8>, u32> {
         0 => Ok(marks),
         refused => {
             assert!(marks.iter().all(|&byte| byte == 0xee), "a refused pass leaves the marks");
+            Err(refused)
+        }
+    }
+}
+
+/// The marks and classes of the pass by a table, or its refusal.
+pub fn record_of_pass(plan: &[u8], table: &[u8], answers: &[u8]) -> Result<(Vec<u8>, Vec<u8>), u32> {
+    let nodes = plan.len() / 2;
+    let (mut marks, mut classes) = (vec![0xee; nodes], vec![0xdd; nodes]);
+    match exported::pass_record(plan, table, answers, &mut marks, &mut classes) {
+        0 => Ok((marks, classes)),
+        refused => {
+            assert_eq!(
+                (marks, classes),
+                (vec![0xee; nodes], vec![0xdd; nodes]),
+                "a refused call leaves both"
+            );
             Err(refused)
         }
     }
