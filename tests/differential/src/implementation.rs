@@ -36,6 +36,21 @@ pub trait Implementation {
     ) -> u32;
     /// The central rule.
     fn central(&mut self, plan: &[u8], code: u32, node: u32, marks: &mut [u8], notes: &mut [u8]) -> u32;
+    /// Checks a table of classes.
+    fn check_table(&mut self, table: &[u8]) -> u32;
+    /// The record of the single pass, by a table of classes.
+    fn pass_record(
+        &mut self,
+        plan: &[u8],
+        table: &[u8],
+        answers: &[u8],
+        marks: &mut [u8],
+        classes: &mut [u8],
+    ) -> u32;
+    /// A simulation from text.
+    fn rehearse(&mut self, text: &[u8], out: &mut [u8]) -> u32;
+    /// The version.
+    fn version(&mut self) -> u32;
     /// What the program prints for each of these texts.
     fn print(&mut self, texts: &[Vec<u8>]) -> Vec<Vec<u8>>;
 }
@@ -97,6 +112,29 @@ impl Implementation for Reference {
 
     fn central(&mut self, plan: &[u8], code: u32, node: u32, marks: &mut [u8], notes: &mut [u8]) -> u32 {
         exported::central(plan, code, node, marks, notes)
+    }
+
+    fn check_table(&mut self, table: &[u8]) -> u32 {
+        exported::check_table(table)
+    }
+
+    fn pass_record(
+        &mut self,
+        plan: &[u8],
+        table: &[u8],
+        answers: &[u8],
+        marks: &mut [u8],
+        classes: &mut [u8],
+    ) -> u32 {
+        exported::pass_record(plan, table, answers, marks, classes)
+    }
+
+    fn rehearse(&mut self, text: &[u8], out: &mut [u8]) -> u32 {
+        exported::rehearse(text, out)
+    }
+
+    fn version(&mut self) -> u32 {
+        exported::version()
     }
 
     fn print(&mut self, texts: &[Vec<u8>]) -> Vec<Vec<u8>> {

@@ -187,7 +187,7 @@ impl<'a, S: Implementation, R: Implementation> Job<'a, S, R> {
     }
 
     /// The job is over: the pass accepts agreeing answers and comes to the
-    /// same record.
+    /// same record, by the common table and by any other.
     fn over(&mut self) -> Result<(), Parted> {
         self.count_end();
         for _ in 0..2 {
@@ -213,15 +213,25 @@ impl<'a, S: Implementation, R: Implementation> Job<'a, S, R> {
         let own = self.trial.record_by(self.plan, &table, state, &marks, &classes).2.to_vec();
         let before = self.random.bytes(self.nodes);
         let (result, passed) = self.trial.pass(self.plan, answers, &before);
+        let same_marks = number(result) == 0 && passed == marks;
         let classed = |table| tables::classes(&self.tree, table, &marks);
         let same_classes = classed(&tables::COMMON) == classes && classed(&table) == own;
-        let same_record = number(result) == 0 && passed == marks && same_classes;
+        let by_common = self.pass_record(&tables::COMMON, answers) == Some((marks.clone(), classes));
+        let by_own = self.pass_record(&table, answers) == Some((marks.clone(), own));
+        let same_record = same_marks && same_classes && by_common && by_own;
         self.trial.tally.jobs.agreeing += 1;
         let same = self.trial.tally.compare(same_record, || {
             let (plan, answers, marks) = (hex(self.plan), hex(answers), hex(&marks));
             format!("the pass and the job differ: plan {plan} answers {answers} end record {marks}")
         });
         self.require(same)
+    }
+
+    /// The record of the pass by a table, unless it is refused.
+    fn pass_record(&mut self, table: &[u8], answers: &[u8]) -> Option<(Vec<u8>, Vec<u8>)> {
+        let (marks, classes) = (self.random.bytes(self.nodes), self.random.bytes(self.nodes));
+        let (result, marks, classes) = self.trial.pass_record(self.plan, table, answers, &marks, &classes);
+        (number(result) == 0).then(|| (marks.to_vec(), classes.to_vec()))
     }
 
     /// Answers that agree with the job's events; anything where those say
