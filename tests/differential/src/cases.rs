@@ -27,21 +27,24 @@ fn version<S: Implementation, R: Implementation>(trial: &mut Trial<S, R>) {
     trial.tally.compare(version == 0x01_0000, || format!("the version is {version:08x}"));
 }
 
+/// A guard: the event, its rule, and what must be written.
+struct GuardCase<'a>(&'a [u8], u32, u32, u32, &'a [u8]);
+
 /// P1 to P8 with their rules, and an only child that is turned down.
 fn guards_with_rules<S: Implementation, R: Implementation>(trial: &mut Trial<S, R>) {
     let only_child = [XOR, 0xff, TASK, 0];
-    let cases: [(&[u8], u32, u32, u32, &[u8]); 9] = [
-        (&P, START, 0, 0x01, &[0]),
-        (&P, START, 2, 0x21, &[1, 1, 3, 1]),
-        (&P, COMMIT, 2, 0x53, &[3, 3, 3, 3, 4, 3, 8, 3, 3, 3, 4, 4, 4, 8, 4, 2, 3, 3, 3, 4]),
-        (&P, ABORT, 2, 0x54, &[2, 1, 4, 3, 1, 4, 4]),
-        (&P, TURNED_DOWN, 3, 0x58, &[2, 1, 2, 3, 1, 7, 4]),
-        (&P, COMMIT, 3, 0xf3, &[1, 1, 7, 3]),
-        (&P, ABORT, 0, 0x24, &[1, 3, 4, 1, 4, 2, 4, 5]),
-        (&P, OFFER, 3, 0x12, &[1, 1, 1, 3]),
-        (&only_child, TURNED_DOWN, 1, 0x58, &[2, 1, 2, 1, 0]),
+    let cases = [
+        GuardCase(&P, START, 0, 0x01, &[0]),
+        GuardCase(&P, START, 2, 0x21, &[1, 1, 3, 1]),
+        GuardCase(&P, COMMIT, 2, 0x53, &[3, 3, 3, 3, 4, 3, 8, 3, 3, 3, 4, 4, 4, 8, 4, 2, 3, 3, 3, 4]),
+        GuardCase(&P, ABORT, 2, 0x54, &[2, 1, 4, 3, 1, 4, 4]),
+        GuardCase(&P, TURNED_DOWN, 3, 0x58, &[2, 1, 2, 3, 1, 7, 4]),
+        GuardCase(&P, COMMIT, 3, 0xf3, &[1, 1, 7, 3]),
+        GuardCase(&P, ABORT, 0, 0x24, &[1, 3, 4, 1, 4, 2, 4, 5]),
+        GuardCase(&P, OFFER, 3, 0x12, &[1, 1, 1, 3]),
+        GuardCase(&only_child, TURNED_DOWN, 1, 0x58, &[2, 1, 2, 1, 0]),
     ];
-    for (plan, code, node, rule, bytes) in cases {
+    for GuardCase(plan, code, node, rule, bytes) in cases {
         let mut buffer = vec![0; 300];
         let result = trial.subject.guard(plan, code, node, &mut buffer);
         let right = result == rule << 8 | (bytes.len() as u32) << 16 && buffer.starts_with(bytes);
@@ -51,18 +54,22 @@ fn guards_with_rules<S: Implementation, R: Implementation>(trial: &mut Trial<S, 
     }
 }
 
+/// A pass: plan and answers, the number, and what must be left as marks and
+/// classes, which were 9 and 8.
+struct PassCase<'a>(&'a [u8], &'a [u8], u32, &'a [u8], &'a [u8]);
+
 /// P9, P10 and the case that joins them, with their classes; then P9 with no
 /// pick, and a task without an answer.
 fn passes<S: Implementation, R: Implementation>(trial: &mut Trial<S, R>) {
     let draft = [XOR, 0xff, SERIAL, 0, TASK, 1, TASK, 0];
-    let cases: [(&[u8], &[u8], u32, &[u8], &[u8]); 5] = [
-        (&P, &[0, 1, 1, 1, 1, 1], 0, &[3, 3, 3, 3, 5, 3], &[0, 1, 0, 1, 2, 1]),
-        (&P, &[0, 2, 1, 1, 1, 1], 0, &[4, 4, 0, 0, 0, 0], &[0, 2, 0, 0, 0, 0]),
-        (&draft, &[2, 0, 1, 1], 0, &[3, 5, 3, 3], &[0, 0, 2, 1]),
-        (&P, &[0, 1, 0, 1, 1, 1], 14, &[9; 6], &[8; 6]),
-        (&P, &[0, 0, 1, 1, 1, 1], 13, &[9; 6], &[8; 6]),
+    let cases = [
+        PassCase(&P, &[0, 1, 1, 1, 1, 1], 0, &[3, 3, 3, 3, 5, 3], &[0, 1, 0, 1, 2, 1]),
+        PassCase(&P, &[0, 2, 1, 1, 1, 1], 0, &[4, 4, 0, 0, 0, 0], &[0, 2, 0, 0, 0, 0]),
+        PassCase(&draft, &[2, 0, 1, 1], 0, &[3, 5, 3, 3], &[0, 0, 2, 1]),
+        PassCase(&P, &[0, 1, 0, 1, 1, 1], 14, &[9; 6], &[8; 6]),
+        PassCase(&P, &[0, 0, 1, 1, 1, 1], 13, &[9; 6], &[8; 6]),
     ];
-    for (plan, answers, number, marks, classes) in cases {
+    for PassCase(plan, answers, number, marks, classes) in cases {
         let (mut left_marks, mut left_classes) = (vec![9; marks.len()], vec![8; marks.len()]);
         let result = trial.subject.pass_record(plan, &COMMON, answers, &mut left_marks, &mut left_classes);
         let right = result == number && left_marks == marks && left_classes == classes;

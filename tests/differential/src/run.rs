@@ -10,7 +10,7 @@ use crate::{calls, cases, hosts, job, texts};
 
 /// Texts in one part of a run.
 const TEXTS_IN_A_PART: usize = 64;
-/// Twice so many texts are given to the call in one part of a run.
+/// Three times so many texts are given to the call in one part of a run.
 const TEXTS_CALLED: usize = 4;
 /// The part that tries every row of an only child.
 pub const ONLY_CHILD_PART: u64 = 1 << 39;

@@ -40,9 +40,10 @@ pub fn calls<S: Implementation, R: Implementation>(
     count: usize,
 ) {
     for _ in 0..count {
-        let text = any(random);
-        let length = out_length(random);
-        trial.rehearse(&text, &random.bytes(length));
+        for text in [any(random), with_damaged_plan(random)] {
+            let length = out_length(random);
+            trial.rehearse(&text, &random.bytes(length));
+        }
         let sound = Sound::any(random);
         let text = sound.text();
         let called = lines_of_call(trial, random, &text);
