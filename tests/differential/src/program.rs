@@ -34,7 +34,7 @@ impl Program {
 
     fn start(&self) -> Child {
         let mut command = Command::new(&self.path);
-        command.stdin(Stdio::piped()).stdout(Stdio::piped());
+        command.stdin(Stdio::piped()).stdout(Stdio::piped()).stderr(Stdio::null());
         command.spawn().unwrap_or_else(|error| panic!("{}: {error}", self.path.display()))
     }
 }
