@@ -5,6 +5,9 @@ use differential::driver::{Driver, Step, Temper, Tree};
 use differential::random::Random;
 use differential::{Implementation, Reference};
 
+/// The longest text that is read.
+const LONGEST_TEXT: usize = 32_768;
+
 /// The kinds of the small blocks, in turn.
 const KINDS: [u8; 6] = [XOR, SERIAL, CONDITIONAL, AND, OR, CONTINGENCY];
 
@@ -33,6 +36,9 @@ pub struct Fixture {
     pub notes: Vec<u8>,
     /// Answers with which every task works.
     pub answers: Vec<u8>,
+    /// A text as long as may be: a job of the plan, then each of the steps
+    /// again and again.
+    pub text: Vec<u8>,
 }
 
 impl Fixture {
@@ -41,11 +47,12 @@ impl Fixture {
         let plan = plan(nodes);
         let tree = Tree::new(&plan);
         let events = events(&tree, nodes);
-        let steps = events.iter().flat_map(|&event| placed_steps(event, nodes)).collect();
-        let (_, whole_job) = job(&plan, usize::MAX);
-        let (state, _) = job(&plan, whole_job / 2);
+        let steps: Vec<PlacedStep> = events.iter().flat_map(|&event| placed_steps(event, nodes)).collect();
+        let whole = job(&plan, usize::MAX);
+        let state = job(&plan, whole.events / 2).state;
         let (marks, notes) = seen_from_above(&plan, &tree, &state);
-        Fixture { nodes, events, steps, state, marks, notes, answers: vec![1; nodes], plan }
+        let text = long_text(&plan, &whole.steps, &steps);
+        Fixture { nodes, events, steps, state, marks, notes, answers: vec![1; nodes], text, plan }
     }
 }
 
@@ -93,10 +100,30 @@ fn placed_steps((code, node, site): (u32, u32, usize), nodes: usize) -> [PlacedS
     ]
 }
 
-/// The state after so many events of a job, or at its end, and how many
-/// events there were.
-fn job(plan: &[u8], most: usize) -> (Vec<u8>, usize) {
+/// A plan and steps as text, full to the last line.
+fn long_text(plan: &[u8], job: &[Step], steps: &[PlacedStep]) -> Vec<u8> {
+    let mut text: String = plan.chunks(2).map(|node| format!("{:02x}{:02x}\n", node[0], node[1])).collect();
+    text += "--\n";
+    let again = steps.iter().map(|placed| placed.step).cycle();
+    let room = (LONGEST_TEXT - text.len()) / 7;
+    for Step { code, node, site } in job.iter().copied().chain(again).take(room) {
+        text += &format!("{code:02x}{node:02x}{site:02x}\n");
+    }
+    text.into_bytes()
+}
+
+/// What a job came to.
+struct Job {
+    state: Vec<u8>,
+    /// How many events there were.
+    events: usize,
+    steps: Vec<Step>,
+}
+
+/// So many events of a job, or all.
+fn job(plan: &[u8], most: usize) -> Job {
     let nodes = plan.len() / 2;
+    let mut steps = Vec::new();
     let mut random = Random::new(nodes as u64);
     let mut driver = Driver::new(plan, Temper { failing: 10, noise: 0, late: 0, eager: 50 });
     let mut state = vec![0; nodes * nodes];
@@ -105,8 +132,9 @@ fn job(plan: &[u8], most: usize) -> (Vec<u8>, usize) {
     {
         let result = Reference.simulate(plan, step.code, step.node, step.site, &mut state);
         driver.heed(step, number(result) == 0, &mut random);
+        steps.push(step);
     }
-    (state, driver.passed().len())
+    Job { state, events: driver.passed().len(), steps }
 }
 
 /// Marks, answers and picks of a state.
@@ -138,6 +166,9 @@ mod tests {
                 met[usize::from(number(result))] += 1;
             }
             assert!([0, 10, 11, 12].iter().all(|&number| met[number] > 0), "{nodes}: {met:?}");
+            let result = Reference.rehearse(&fixture.text, &mut vec![0; 16_384]);
+            assert_eq!(number(result), 0, "{nodes}");
+            assert!(fixture.text.len() > LONGEST_TEXT - 7, "{nodes}: {}", fixture.text.len());
         }
     }
 }

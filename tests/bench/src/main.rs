@@ -84,7 +84,7 @@ fn start_archive(_: &Options) -> Result<(), String> {
 /// Measures everything and prints the table.
 fn compare(name: &str, subject: &mut impl Implementation, options: &Options) -> Result<(), String> {
     println!(
-        "{:<10}{:>6}{:>14}{:>14}{:>8}",
+        "{:<12}{:>6}{:>14}{:>14}{:>8}",
         "function",
         "nodes",
         format!("{name} ns"),
@@ -159,5 +159,5 @@ fn compare_job(name: &str, subject: &mut impl Implementation, rounds: usize) -> 
 }
 
 fn print_line(name: &str, nodes: usize, medians: &Medians) {
-    println!("{name:<10}{nodes:>6}{:>14.1}{:>14.1}{:>8.2}", medians.theirs, medians.ours, medians.ratio());
+    println!("{name:<12}{nodes:>6}{:>14.1}{:>14.1}{:>8.2}", medians.theirs, medians.ours, medians.ratio());
 }

@@ -4,11 +4,12 @@
 use crate::fixture::{Fixture, PlacedStep};
 use differential::Implementation;
 use differential::driver::Step;
-use differential::tables::USUAL;
+use differential::tables::COMMON;
+use differential::texts::OUT_BYTES;
 use std::hint::black_box;
 
 /// The measured functions.
-pub const NAMES: [&str; 12] = [
+pub const NAMES: [&str; 15] = [
     "check",
     "depths",
     "rewrite",
@@ -20,7 +21,10 @@ pub const NAMES: [&str; 12] = [
     "simulate",
     "record",
     "record_by",
+    "check_table",
+    "pass_record",
     "central",
+    "rehearse",
 ];
 
 /// One key typed in a plan: a byte changes, and the plan is checked with its
@@ -38,6 +42,7 @@ pub struct Work {
     out: Vec<u8>,
     more: Vec<u8>,
     rewritten: Vec<u8>,
+    lines: Vec<u8>,
 }
 
 impl Work {
@@ -51,6 +56,7 @@ impl Work {
             out: vec![0; nodes],
             more: vec![0; nodes],
             rewritten: vec![0; 2 * nodes],
+            lines: vec![0; OUT_BYTES],
         }
     }
 
@@ -58,6 +64,8 @@ impl Work {
     pub fn calls(&self) -> usize {
         match self.function {
             "check" | "depths" | "rewrite" | "pass" | "record" | "record_by" => CALLS,
+            "check_table" | "pass_record" => CALLS,
+            "rehearse" => 1,
             KEY => 2 * self.fixture.plan.len(),
             "simulate" => self.fixture.steps.len(),
             _ => self.fixture.events.len(),
@@ -86,8 +94,15 @@ impl Work {
             "record_by" => self.repeat(|work| {
                 let fixture = &work.fixture;
                 let plan = black_box(&fixture.plan);
-                subject.record_by(plan, &USUAL, &fixture.state, &mut work.out, &mut work.more)
+                subject.record_by(plan, &COMMON, &fixture.state, &mut work.out, &mut work.more)
             }),
+            "check_table" => self.repeat(|_| subject.check_table(black_box(&COMMON))),
+            "pass_record" => self.repeat(|work| {
+                let fixture = &work.fixture;
+                let plan = black_box(&fixture.plan);
+                subject.pass_record(plan, &COMMON, &fixture.answers, &mut work.out, &mut work.more)
+            }),
+            "rehearse" => subject.rehearse(black_box(&self.fixture.text), &mut self.lines),
             "guard" => self.guards(subject),
             "rule" => self.rules(subject),
             "step" => self.steps(subject),

@@ -65,7 +65,30 @@ impl Implementation for Archive {
         vulcedar::central(plan, code, node, marks, notes)
     }
 
-    fn rehearse(&mut self, texts: &[Vec<u8>]) -> Vec<Vec<u8>> {
-        self.program.rehearse(texts)
+    fn check_table(&mut self, table: &[u8]) -> u32 {
+        vulcedar::check_table(table)
+    }
+
+    fn pass_record(
+        &mut self,
+        plan: &[u8],
+        table: &[u8],
+        answers: &[u8],
+        marks: &mut [u8],
+        classes: &mut [u8],
+    ) -> u32 {
+        vulcedar::pass_record(plan, table, answers, marks, classes)
+    }
+
+    fn rehearse(&mut self, text: &[u8], out: &mut [u8]) -> u32 {
+        vulcedar::rehearse(text, out)
+    }
+
+    fn version(&mut self) -> u32 {
+        vulcedar::version()
+    }
+
+    fn print(&mut self, texts: &[Vec<u8>]) -> Vec<Vec<u8>> {
+        self.program.print(texts)
     }
 }

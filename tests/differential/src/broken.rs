@@ -5,6 +5,7 @@ use crate::codes::*;
 use crate::driver::Tree;
 use crate::implementation::{Implementation, Reference};
 use crate::tables;
+use crate::texts::{OUT_BYTES, Sound};
 
 /// A mistake: those the document warns of, its worthless versions, and slips
 /// at the borders.
@@ -68,8 +69,8 @@ pub enum Mistake {
     LosersStayOffered,
     /// The record puts offered before turned down.
     OfferedBeforeTurnedDown,
-    /// Blocks are filed as tasks are.
-    BlocksAreFiled,
+    /// Blocks are classed as tasks are.
+    BlocksAreClassed,
     /// The central rule picks a second time.
     CentralPicksTwice,
     /// The central rule has an and wait before it fails.
@@ -110,16 +111,16 @@ pub enum Mistake {
     TableStays,
     /// A table may have any class.
     TableWithAnyClass,
-    /// A table may file what has not begun.
-    TableFilesNothing,
+    /// A table may have a class for what has not begun.
+    TableClassesIdle,
     /// A table's marks may be in any order.
     TableInAnyOrder,
     /// What stands behind a table's twelve bytes is overlooked.
     LongerTable,
     /// The plan is checked before the table.
     PlanBeforeTable,
-    /// By a table of the house, blocks are filed as tasks are.
-    TableFilesBlocks,
+    /// By a table of the house, blocks are classed as tasks are.
+    TableClassesBlocks,
     /// A table before the plan is read and not used.
     TextTableIgnored,
     /// An empty table before the plan is as none.
@@ -143,9 +144,47 @@ pub enum Mistake {
     /// Below a lost block a running task too has the class of a lost one.
     AllTasksOfALostBlock,
     /// Below a lost block a table of the house doesn't count.
-    LostByTheUsualTable,
+    LostByTheCommonTable,
     /// A task below a lost block gets the mark of one that was turned down.
     LostTasksAreMarked,
+    /// The guard writer hands on no rule.
+    GuardRuleLeftOut,
+    /// A guard that doesn't fit into its buffer hands its rule on.
+    GuardRuleWithRefusals,
+    /// The check of a table takes an empty one for the common one.
+    CheckTableTakesNone,
+    /// The check of a table counts its bytes and no more.
+    CheckTableByLength,
+    /// The pass's record checks its table and then doesn't use it.
+    PassRecordByTheCommonTable,
+    /// The pass's record takes an empty table for the common one.
+    PassRecordWithoutTable,
+    /// The pass's record checks its plan before its table.
+    PassRecordPlanFirst,
+    /// The pass's record finds a fault before a wrong length of its classes.
+    PassRecordFaultsFirst,
+    /// In the pass's record a task's class goes by its own mark alone.
+    PassRecordOfEachAlone,
+    /// A refused record of the pass has already written classes.
+    RefusedPassRecordWrites,
+    /// A refused text's number is written too.
+    RehearseWritesRefusals,
+    /// The bytes behind a text's lines are cleared.
+    RehearseClearsTheRest,
+    /// The length of a text's lines is left out.
+    RehearseLengthLeftOut,
+    /// Too few bytes for a text's lines are noticed before the text's own fault.
+    RehearseLengthFirst,
+    /// Bytes that a text's lines just fit into are enough.
+    RehearseIntoWhatFits,
+    /// The version's first number stands in the lowest byte.
+    VersionInTheLowestByte,
+    /// The version is the next one.
+    VersionOneHigher,
+    /// In a simulation an event is decided by what anybody has heard.
+    SimulationSeesAllRows,
+    /// A site refuses to hear a second time.
+    HearRefusesRepeats,
     /// One level more than there may be.
     OneLevelMore,
     /// Parents are looked at before kinds.
@@ -162,7 +201,7 @@ pub enum Mistake {
 
 impl Mistake {
     /// All mistakes; the first is number 1.
-    pub const ALL: [Mistake; 74] = [
+    pub const ALL: [Mistake; 93] = [
         Mistake::CommitUnlessAbortHeard,
         Mistake::PickAtTheChild,
         Mistake::TurnedDownStillRuns,
@@ -192,7 +231,7 @@ impl Mistake {
         Mistake::AnswersReadEverywhere,
         Mistake::LosersStayOffered,
         Mistake::OfferedBeforeTurnedDown,
-        Mistake::BlocksAreFiled,
+        Mistake::BlocksAreClassed,
         Mistake::CentralPicksTwice,
         Mistake::CentralAndWaits,
         Mistake::CentralWaitingAndFailsAtOnce,
@@ -213,11 +252,11 @@ impl Mistake {
         Mistake::TableIgnored,
         Mistake::TableStays,
         Mistake::TableWithAnyClass,
-        Mistake::TableFilesNothing,
+        Mistake::TableClassesIdle,
         Mistake::TableInAnyOrder,
         Mistake::LongerTable,
         Mistake::PlanBeforeTable,
-        Mistake::TableFilesBlocks,
+        Mistake::TableClassesBlocks,
         Mistake::TextTableIgnored,
         Mistake::TextEmptyTable,
         Mistake::TextTwoTables,
@@ -229,8 +268,27 @@ impl Mistake {
         Mistake::OpenBeforeLost,
         Mistake::LostAsFailed,
         Mistake::AllTasksOfALostBlock,
-        Mistake::LostByTheUsualTable,
+        Mistake::LostByTheCommonTable,
         Mistake::LostTasksAreMarked,
+        Mistake::GuardRuleLeftOut,
+        Mistake::GuardRuleWithRefusals,
+        Mistake::CheckTableTakesNone,
+        Mistake::CheckTableByLength,
+        Mistake::PassRecordByTheCommonTable,
+        Mistake::PassRecordWithoutTable,
+        Mistake::PassRecordPlanFirst,
+        Mistake::PassRecordFaultsFirst,
+        Mistake::PassRecordOfEachAlone,
+        Mistake::RefusedPassRecordWrites,
+        Mistake::RehearseWritesRefusals,
+        Mistake::RehearseClearsTheRest,
+        Mistake::RehearseLengthLeftOut,
+        Mistake::RehearseLengthFirst,
+        Mistake::RehearseIntoWhatFits,
+        Mistake::VersionInTheLowestByte,
+        Mistake::VersionOneHigher,
+        Mistake::SimulationSeesAllRows,
+        Mistake::HearRefusesRepeats,
         Mistake::OneLevelMore,
         Mistake::ParentsBeforeKinds,
         Mistake::DepthsFromZero,
@@ -251,7 +309,7 @@ pub struct Broken {
 impl Broken {
     /// A copy with this mistake.
     pub fn new(mistake: Mistake) -> Broken {
-        Broken { mistake, honest: Reference, has_passed: false, last_table: tables::USUAL }
+        Broken { mistake, honest: Reference, has_passed: false, last_table: tables::COMMON }
     }
 
     fn cut(&self, number: u32) -> u32 {
@@ -294,6 +352,36 @@ impl Broken {
         }
     }
 
+    /// Writes a guard; the result has no rule yet.
+    fn write_guard(&mut self, plan: &[u8], code: u32, node: u32, buffer: &mut [u8]) -> u32 {
+        let plan = match self.mistake {
+            Mistake::AndGuardStaysOld => with_kind(plan, AND, WAITING_AND),
+            _ => plan.to_vec(),
+        };
+        let before = buffer.len();
+        let result = self.honest.guard(&plan, code, node, buffer) & !0xff00;
+        let length = value(result) as usize;
+        match self.mistake {
+            Mistake::SameGuardForAll if number(result) == 0 && before >= 4 => {
+                buffer[..4].copy_from_slice(&[1, 1, 1, node as u8]);
+                4 << 16
+            }
+            Mistake::SelfAmongSiblings if number(result) == 0 && code == TURNED_DOWN => {
+                buffer[4] += 1;
+                if before > length + 1 {
+                    buffer[length..][..2].copy_from_slice(&[7, node as u8]);
+                }
+                result + (2 << 16)
+            }
+            Mistake::GuardClearsTheRest if number(result) == 0 => {
+                buffer[length..].fill(0);
+                result
+            }
+            Mistake::ShortBufferFirst if matches!(number(result), 8 | 9) && before == 0 => 7,
+            _ => result,
+        }
+    }
+
     /// What the mistake makes of a plan's kinds before it decides.
     fn misread_kinds(&self, plan: &[u8]) -> Vec<u8> {
         match self.mistake {
@@ -310,7 +398,7 @@ impl Broken {
             Mistake::TableWithAnyClass => {
                 table.iter_mut().skip(3).step_by(2).for_each(|class| *class &= 3);
             }
-            Mistake::TableFilesNothing if table.len() > 1 && table[1] <= 3 => table[1] = 0,
+            Mistake::TableClassesIdle if table.len() > 1 && table[1] <= 3 => table[1] = 0,
             Mistake::TableInAnyOrder if table.len() == 12 => {
                 let mut frames: Vec<[u8; 2]> = table.as_chunks().0.to_vec();
                 frames.sort_by_key(|frame| frame[0]);
@@ -354,8 +442,8 @@ impl Broken {
         }
     }
 
-    /// Files tasks below blocks that didn't go through as the mistake does.
-    fn misfile(&self, plan: &[u8], table: &[u8], marks: &mut [u8], classes: &mut [u8]) {
+    /// Classes tasks below blocks that didn't go through as the mistake does.
+    fn misclass(&self, plan: &[u8], table: &[u8], marks: &mut [u8], classes: &mut [u8]) {
         let tree = Tree::new(plan);
         let class = |mark: u8| table[2 * usize::from(mark) + 1];
         let is_lost = |mark: &u8| matches!(mark, 4 | 5);
@@ -377,10 +465,58 @@ impl Broken {
                 Mistake::OpenBeforeLost if committed && open => classes[node] = class(2),
                 Mistake::LostAsFailed if committed && lost => classes[node] = class(4),
                 Mistake::AllTasksOfALostBlock if lost && marks[node] != 0 => classes[node] = class(5),
-                Mistake::LostByTheUsualTable if committed && lost => classes[node] = 2,
+                Mistake::LostByTheCommonTable if committed && lost => classes[node] = 2,
                 Mistake::LostTasksAreMarked if committed && lost => marks[node] = 5,
                 _ => {}
             }
+        }
+    }
+
+    /// A pass that no length and no table spoils, classed as the mistake does.
+    fn classed_pass(
+        &mut self,
+        plan: &[u8],
+        table: &[u8],
+        answers: &[u8],
+        marks: &mut [u8],
+        classes: &mut [u8],
+    ) -> u32 {
+        let result = self.pass(plan, answers, marks);
+        if result != 0 {
+            return result;
+        }
+        let mut table: [u8; 12] = table.try_into().unwrap_or(tables::COMMON);
+        if self.mistake == Mistake::PassRecordByTheCommonTable {
+            table = tables::COMMON;
+        }
+        let tree = Tree::new(plan);
+        classes.copy_from_slice(&tables::classes(&tree, &table, marks));
+        if self.mistake == Mistake::PassRecordOfEachAlone {
+            let tasks = (0..classes.len()).filter(|&node| tree.kind(node) == TASK);
+            tasks.for_each(|node| classes[node] = table[2 * usize::from(marks[node]) + 1]);
+        }
+        self.misclass(plan, &table, marks, classes);
+        0
+    }
+
+    /// What the program prints for a text: by its own steps and record, if no
+    /// mistake in reading it comes before.
+    fn printed(&mut self, text: &[u8]) -> Vec<u8> {
+        match self.mistake {
+            Mistake::TextWithReturns => {
+                let without: Vec<u8> = text.iter().copied().filter(|&byte| byte != b'\r').collect();
+                reference::rehearse(&without)
+            }
+            Mistake::PlanBeforeText => plan_before_text(text),
+            Mistake::TextEmptyTable => reference::rehearse(text.strip_prefix(b"==\n").unwrap_or(text)),
+            Mistake::TextTwoTables => second_table(text),
+            Mistake::TextTableIgnored | Mistake::TextPlanBeforeTable | Mistake::TextTableFirst => {
+                without_table(self.mistake, text)
+            }
+            _ => match reference::rehearse(text) {
+                refused if refused.len() == 3 => refused,
+                _ => Sound::read(text).lines(self),
+            },
         }
     }
 
@@ -485,29 +621,12 @@ impl Implementation for Broken {
     }
 
     fn guard(&mut self, plan: &[u8], code: u32, node: u32, buffer: &mut [u8]) -> u32 {
-        if self.mistake == Mistake::AndGuardStaysOld {
-            return self.honest.guard(&with_kind(plan, AND, WAITING_AND), code, node, buffer);
-        }
-        let before = buffer.len();
-        let result = self.honest.guard(plan, self.cut(code), self.cut(node), buffer);
-        let length = value(result) as usize;
-        match self.mistake {
-            Mistake::SameGuardForAll if number(result) == 0 && before >= 4 => {
-                buffer[..4].copy_from_slice(&[1, 1, 1, node as u8]);
-                4 << 16
-            }
-            Mistake::SelfAmongSiblings if number(result) == 0 && code == TURNED_DOWN => {
-                buffer[4] += 1;
-                if before > length + 1 {
-                    buffer[length..][..2].copy_from_slice(&[7, node as u8]);
-                }
-                result + (2 << 16)
-            }
-            Mistake::GuardClearsTheRest if number(result) == 0 => {
-                buffer[length..].fill(0);
-                result
-            }
-            Mistake::ShortBufferFirst if matches!(number(result), 8 | 9) && before == 0 => 7,
+        let (code, node) = (self.cut(code), self.cut(node));
+        let result = self.write_guard(plan, code, node, buffer);
+        let rule = value(self.rule(plan, code, node)) << 8;
+        match (self.mistake, number(result)) {
+            (Mistake::GuardRuleLeftOut, 0) => result,
+            (Mistake::GuardRuleWithRefusals, 0 | 7) | (_, 0) => result | rule,
             _ => result,
         }
     }
@@ -545,7 +664,11 @@ impl Implementation for Broken {
     }
 
     fn hear(&mut self, plan: &[u8], code: u32, node: u32, row: &mut [u8]) -> u32 {
+        let before = row.to_vec();
         let result = self.honest.hear(plan, self.cut(code), self.cut(node), row);
+        if self.mistake == Mistake::HearRefusesRepeats && result == 0 && row == before {
+            return 10;
+        }
         if self.mistake == Mistake::HearsAnything && number(result) == 9 {
             row[node as usize] |= bit(code);
             return 0;
@@ -594,7 +717,14 @@ impl Implementation for Broken {
         }
         let at_child = self.mistake == Mistake::PickAtTheChild;
         let own = if at_child { node as usize } else { Tree::new(plan).site(code, node as usize) };
-        let result = self.event(plan, code, node, &mut state[own * nodes..][..nodes]);
+        let known = match self.mistake {
+            Mistake::SimulationSeesAllRows => all_heard(state, nodes),
+            _ => vec![0; nodes],
+        };
+        let row = &mut state[own * nodes..][..nodes];
+        let mut seen: Vec<u8> = row.iter().zip(&known).map(|(own, known)| own | known).collect();
+        let result = self.event(plan, code, node, &mut seen);
+        row[node as usize] |= if number(result) == 0 { seen[node as usize] & bit(code) } else { 0 };
         let root_starts = number(result) == 0 && code == START && node == 0;
         if root_starts && self.mistake == Mistake::AllEndedAtTheRootsStart {
             (0..nodes).for_each(|node| state[node * nodes + node] |= bit(COMMIT));
@@ -615,8 +745,8 @@ impl Implementation for Broken {
             Mistake::OfferedBeforeTurnedDown => {
                 marks.iter_mut().filter(|mark| **mark == 5).for_each(|mark| *mark = 2);
             }
-            Mistake::BlocksAreFiled => file_blocks(plan, &tables::USUAL, marks, classes),
-            _ => self.misfile(plan, &tables::USUAL, marks, classes),
+            Mistake::BlocksAreClassed => class_blocks(plan, &tables::COMMON, marks, classes),
+            _ => self.misclass(plan, &tables::COMMON, marks, classes),
         }
         result
     }
@@ -640,10 +770,77 @@ impl Implementation for Broken {
         match self.mistake {
             Mistake::TableStays => self.last_table.copy_from_slice(&seen),
             Mistake::TableIgnored => return self.honest.record(plan, state, marks, classes),
-            Mistake::TableFilesBlocks => file_blocks(plan, &seen, marks, classes),
-            _ => self.misfile(plan, &seen, marks, classes),
+            Mistake::TableClassesBlocks => class_blocks(plan, &seen, marks, classes),
+            _ => self.misclass(plan, &seen, marks, classes),
         }
         result
+    }
+
+    fn check_table(&mut self, table: &[u8]) -> u32 {
+        match self.mistake {
+            Mistake::CheckTableTakesNone if table.is_empty() => 0,
+            Mistake::CheckTableByLength if table.len() == tables::COMMON.len() => 0,
+            _ => self.honest.check_table(&self.misread_table(table)),
+        }
+    }
+
+    fn pass_record(
+        &mut self,
+        plan: &[u8],
+        table: &[u8],
+        answers: &[u8],
+        marks: &mut [u8],
+        classes: &mut [u8],
+    ) -> u32 {
+        let seen = match self.mistake {
+            Mistake::PassRecordWithoutTable if table.is_empty() => tables::COMMON.to_vec(),
+            _ => self.misread_table(table),
+        };
+        let nodes = plan.len() / 2;
+        let honest =
+            self.honest.pass_record(plan, &seen, answers, &mut marks.to_vec(), &mut classes.to_vec());
+        match (self.mistake, honest) {
+            (Mistake::PassRecordPlanFirst, 21) if self.honest.check(plan) != 0 => self.honest.check(plan),
+            (Mistake::PassRecordFaultsFirst, 7) if marks.len() == nodes => {
+                let fault = self.honest.pass(plan, answers, &mut vec![0; nodes]);
+                if fault == 0 { 7 } else { fault }
+            }
+            (Mistake::RefusedPassRecordWrites, 13 | 14) => {
+                classes[0] = 0;
+                honest
+            }
+            (_, 0 | 13 | 14) => self.classed_pass(plan, &seen, answers, marks, classes),
+            _ => honest,
+        }
+    }
+
+    fn rehearse(&mut self, text: &[u8], out: &mut [u8]) -> u32 {
+        let lines = self.printed(text);
+        let refused = (lines.len() == 3).then(|| number_of_line(&lines));
+        match (self.mistake, refused) {
+            (Mistake::RehearseWritesRefusals, Some(number)) if out.len() > 3 => {
+                out[..3].copy_from_slice(&lines);
+                number
+            }
+            (Mistake::RehearseLengthFirst, Some(_)) if out.len() < OUT_BYTES => 7,
+            (_, Some(number)) => number,
+            (Mistake::RehearseIntoWhatFits, None) if lines.len() <= out.len() => put(&lines, out),
+            (_, None) if out.len() < OUT_BYTES => 7,
+            (Mistake::RehearseLengthLeftOut, None) => put(&lines, out) & 0xffff,
+            (Mistake::RehearseClearsTheRest, None) => {
+                out.fill(0);
+                put(&lines, out)
+            }
+            (_, None) => put(&lines, out),
+        }
+    }
+
+    fn version(&mut self) -> u32 {
+        match self.mistake {
+            Mistake::VersionInTheLowestByte => 1,
+            Mistake::VersionOneHigher => self.honest.version() + 1,
+            _ => self.honest.version(),
+        }
     }
 
     fn central(&mut self, plan: &[u8], code: u32, node: u32, marks: &mut [u8], notes: &mut [u8]) -> u32 {
@@ -664,23 +861,28 @@ impl Implementation for Broken {
         result
     }
 
-    fn rehearse(&mut self, texts: &[Vec<u8>]) -> Vec<Vec<u8>> {
-        let mistake = self.mistake;
-        let one = |text: &Vec<u8>| match mistake {
-            Mistake::TextWithReturns => {
-                let without: Vec<u8> = text.iter().copied().filter(|&byte| byte != b'\r').collect();
-                reference::rehearse(&without)
-            }
-            Mistake::PlanBeforeText => plan_before_text(text),
-            Mistake::TextEmptyTable => reference::rehearse(text.strip_prefix(b"==\n").unwrap_or(text)),
-            Mistake::TextTwoTables => second_table(text),
-            Mistake::TextTableIgnored | Mistake::TextPlanBeforeTable | Mistake::TextTableFirst => {
-                without_table(mistake, text)
-            }
-            _ => reference::rehearse(text),
-        };
-        texts.iter().map(one).collect()
+    fn print(&mut self, texts: &[Vec<u8>]) -> Vec<Vec<u8>> {
+        texts.iter().map(|text| self.printed(text)).collect()
     }
+}
+
+/// What any of the rows of a state has heard.
+fn all_heard(state: &[u8], nodes: usize) -> Vec<u8> {
+    (0..nodes)
+        .map(|node| state.iter().skip(node).step_by(nodes).fold(0, |heard, byte| heard | byte))
+        .collect()
+}
+
+/// The number in a line of its own.
+fn number_of_line(line: &[u8]) -> u32 {
+    let digits = String::from_utf8_lossy(line);
+    u32::from_str_radix(digits.trim_end(), 16).expect("two digits and a line feed")
+}
+
+/// Writes lines to the front of lent bytes; answers as the call does.
+fn put(lines: &[u8], out: &mut [u8]) -> u32 {
+    out[..lines.len()].copy_from_slice(lines);
+    (lines.len() as u32) << 16
 }
 
 /// The plan with one kind taken for another.
@@ -701,7 +903,7 @@ fn plan_before_text(text: &[u8]) -> Vec<u8> {
 }
 
 /// Gives blocks the classes that tasks would have.
-fn file_blocks(plan: &[u8], table: &[u8], marks: &[u8], classes: &mut [u8]) {
+fn class_blocks(plan: &[u8], table: &[u8], marks: &[u8], classes: &mut [u8]) {
     for (node, class) in classes.iter_mut().enumerate().filter(|(node, _)| plan[2 * node] != TASK) {
         *class = table[2 * usize::from(marks[node]) + 1];
     }

@@ -1,5 +1,5 @@
 //! Single calls on anything: damaged plans, wrong lengths, strange numbers,
-//! and rows, states, marks and notes that no rehearsal leads to.
+//! and rows, states, marks and notes that no simulation leads to.
 
 use crate::codes::*;
 use crate::driver::{STRANGE, Tree};
@@ -34,6 +34,8 @@ pub fn damaged_plans<S: Implementation, R: Implementation>(trial: &mut Trial<S, 
         trial.simulate(&plan, code, node, site, &state);
         trial.record(&plan, &state, &one, &two);
         trial.record_by(&plan, &tables::any(random), &state, &one, &two);
+        let three = length(random, nodes);
+        trial.pass_record(&plan, &tables::any(random), &one, &two, &random.bytes(three));
         trial.central(&plan, code, node, &one, &two);
     }
 }
@@ -116,7 +118,8 @@ pub fn only_child<S: Implementation, R: Implementation>(trial: &mut Trial<S, R>)
     });
 }
 
-/// Passes with answers that fit, nearly fit or don't fit at all.
+/// Passes with answers that fit, nearly fit or don't fit at all, and their
+/// records by any table.
 pub fn passes<S: Implementation, R: Implementation>(
     trial: &mut Trial<S, R>,
     random: &mut Random,
@@ -125,17 +128,28 @@ pub fn passes<S: Implementation, R: Implementation>(
     let nodes = plan.len() / 2;
     let tree = Tree::new(plan);
     for _ in 0..20 {
-        let marks = random.bytes(nodes);
         let mut answers = fitting_answers(random, &tree);
-        trial.pass(plan, &answers, &marks);
+        pass(trial, random, plan, &answers);
         for _ in 0..random.between(1, 3) {
             let node = random.below(nodes);
             answers[node] = random.one_of(&[0, 1, 2, 3, 4, 33, 255]);
-            trial.pass(plan, &answers, &marks);
+            pass(trial, random, plan, &answers);
         }
         let wild: Vec<u8> = (0..nodes).map(|_| random.one_of(&[0, 1, 1, 2, 2, 3, 9])).collect();
-        trial.pass(plan, &wild, &marks);
+        pass(trial, random, plan, &wild);
     }
+}
+
+/// A pass and its record.
+fn pass<S: Implementation, R: Implementation>(
+    trial: &mut Trial<S, R>,
+    random: &mut Random,
+    plan: &[u8],
+    answers: &[u8],
+) {
+    let (marks, classes) = (random.bytes(answers.len()), random.bytes(answers.len()));
+    trial.pass(plan, answers, &marks);
+    trial.pass_record(plan, &tables::any(random), answers, &marks, &classes);
 }
 
 /// The central rule on any marks and notes.
@@ -159,7 +173,7 @@ pub fn views<S: Implementation, R: Implementation>(
     }
 }
 
-/// A rehearsal's step, and the record, on any state.
+/// A simulation's step, and the record, on any state.
 pub fn states<S: Implementation, R: Implementation>(
     trial: &mut Trial<S, R>,
     random: &mut Random,
@@ -177,7 +191,9 @@ pub fn states<S: Implementation, R: Implementation>(
         let (marks, classes) = (random.bytes(nodes), random.bytes(nodes));
         trial.record(plan, &state, &marks, &classes);
         for _ in 0..3 {
-            trial.record_by(plan, &tables::any(random), &state, &marks, &classes);
+            let table = tables::any(random);
+            trial.check_table(&table);
+            trial.record_by(plan, &table, &state, &marks, &classes);
         }
     }
 }
@@ -202,6 +218,8 @@ pub fn lengths<S: Implementation, R: Implementation>(
         trial.simulate(plan, code, node, site, &state);
         trial.record(plan, &state, &one, &two);
         trial.record_by(plan, &tables::any(random), &state, &one, &two);
+        let three = length(random, nodes);
+        trial.pass_record(plan, &tables::any(random), &one, &two, &random.bytes(three));
         trial.central(plan, code, node, &one, &two);
     }
 }

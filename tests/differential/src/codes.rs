@@ -43,6 +43,11 @@ pub fn number(result: u32) -> u8 {
     result as u8
 }
 
+/// The site in a packed result; of a guard, its rule.
+pub fn site(result: u32) -> u32 {
+    result >> 8 & 0xff
+}
+
 /// The value in a packed result.
 pub fn value(result: u32) -> u32 {
     result >> 16

@@ -1,4 +1,4 @@
-//! Proposes the steps of a rehearsal, so that the job gets on: events that
+//! Proposes the steps of a simulation, so that the job gets on: events that
 //! have become likely, messages in any order, and between them repeats, false
 //! messages and nonsense.
 
@@ -19,7 +19,7 @@ pub struct Step {
     pub site: u32,
 }
 
-/// How a rehearsal goes, in cases of a hundred.
+/// How a simulation goes, in cases of a hundred.
 #[derive(Clone, Copy)]
 pub struct Temper {
     /// How often a task is also tried for failing.
@@ -44,7 +44,7 @@ impl Temper {
     }
 }
 
-/// A rehearsal's outstanding steps.
+/// A simulation's outstanding steps.
 pub struct Driver {
     nodes: usize,
     tree: Tree,
@@ -61,7 +61,7 @@ pub struct Driver {
 }
 
 impl Driver {
-    /// A rehearsal of a valid plan, nothing done yet.
+    /// A simulation of a valid plan, nothing done yet.
     pub fn new(plan: &[u8], temper: Temper) -> Driver {
         let nodes = plan.len() / 2;
         let listed = vec![false; 9 * nodes];

@@ -21,11 +21,11 @@ pub trait Implementation {
     fn hear(&mut self, plan: &[u8], code: u32, node: u32, row: &mut [u8]) -> u32;
     /// The single pass.
     fn pass(&mut self, plan: &[u8], answers: &[u8], marks: &mut [u8]) -> u32;
-    /// A step of a rehearsal.
+    /// A step of a simulation.
     fn simulate(&mut self, plan: &[u8], code: u32, node: u32, site: u32, state: &mut [u8]) -> u32;
     /// The end record.
     fn record(&mut self, plan: &[u8], state: &[u8], marks: &mut [u8], classes: &mut [u8]) -> u32;
-    /// The end record by a filing table that is handed in.
+    /// The end record by a table of classes that is handed in.
     fn record_by(
         &mut self,
         plan: &[u8],
@@ -36,8 +36,23 @@ pub trait Implementation {
     ) -> u32;
     /// The central rule.
     fn central(&mut self, plan: &[u8], code: u32, node: u32, marks: &mut [u8], notes: &mut [u8]) -> u32;
+    /// Checks a table of classes.
+    fn check_table(&mut self, table: &[u8]) -> u32;
+    /// The record of the single pass, by a table of classes.
+    fn pass_record(
+        &mut self,
+        plan: &[u8],
+        table: &[u8],
+        answers: &[u8],
+        marks: &mut [u8],
+        classes: &mut [u8],
+    ) -> u32;
+    /// A simulation from text.
+    fn rehearse(&mut self, text: &[u8], out: &mut [u8]) -> u32;
+    /// The version.
+    fn version(&mut self) -> u32;
     /// What the program prints for each of these texts.
-    fn rehearse(&mut self, texts: &[Vec<u8>]) -> Vec<Vec<u8>>;
+    fn print(&mut self, texts: &[Vec<u8>]) -> Vec<Vec<u8>>;
 }
 
 /// The reference itself.
@@ -99,7 +114,30 @@ impl Implementation for Reference {
         exported::central(plan, code, node, marks, notes)
     }
 
-    fn rehearse(&mut self, texts: &[Vec<u8>]) -> Vec<Vec<u8>> {
+    fn check_table(&mut self, table: &[u8]) -> u32 {
+        exported::check_table(table)
+    }
+
+    fn pass_record(
+        &mut self,
+        plan: &[u8],
+        table: &[u8],
+        answers: &[u8],
+        marks: &mut [u8],
+        classes: &mut [u8],
+    ) -> u32 {
+        exported::pass_record(plan, table, answers, marks, classes)
+    }
+
+    fn rehearse(&mut self, text: &[u8], out: &mut [u8]) -> u32 {
+        exported::rehearse(text, out)
+    }
+
+    fn version(&mut self) -> u32 {
+        exported::version()
+    }
+
+    fn print(&mut self, texts: &[Vec<u8>]) -> Vec<Vec<u8>> {
         texts.iter().map(|text| reference::rehearse(text)).collect()
     }
 }

@@ -1,4 +1,4 @@
-//! A whole rehearsal, with the central rule in lockstep: what passes must be
+//! A whole simulation, with the central rule in lockstep: what passes must be
 //! a run of it, and at the end the pass must come to the same record.
 
 use crate::codes::*;
@@ -9,11 +9,11 @@ use crate::random::Random;
 use crate::tables;
 use crate::trial::{Trial, hex};
 
-/// A rehearsal stops where the sides part: nothing after it would tell more.
+/// A simulation stops where the sides part: nothing after it would tell more.
 struct Parted;
 
-/// Rehearses a valid plan, usually to the end.
-pub fn rehearse<S: Implementation, R: Implementation>(
+/// Simulates a valid plan, usually to the end.
+pub fn simulate<S: Implementation, R: Implementation>(
     trial: &mut Trial<S, R>,
     random: &mut Random,
     plan: &[u8],
@@ -101,14 +101,14 @@ impl<'a, S: Implementation, R: Implementation> Job<'a, S, R> {
         Some(self.trial.step(self.plan, step.code, step.node, &row))
     }
 
-    /// A rehearsal's event comes out as it does at the site alone.
+    /// A simulation's event comes out as it does at the site alone.
     fn compare_with_site(&mut self, step: Step, alone: Option<u32>, result: u32) -> Result<(), Parted> {
         let Some(alone) = alone else {
             return Ok(());
         };
         let same = self.trial.tally.compare(alone == result, || {
             let plan = hex(self.plan);
-            format!("site alone {alone:08x}, rehearsal {result:08x}: plan {plan} {step:?}")
+            format!("site alone {alone:08x}, simulation {result:08x}: plan {plan} {step:?}")
         });
         self.require(same)
     }
@@ -120,11 +120,11 @@ impl<'a, S: Implementation, R: Implementation> Job<'a, S, R> {
         let allowed = self.central(code, node, true);
         let run = self.driver.passed().len();
         let (marks, classes) = self.record();
-        let is_filed = classes == tables::classes(&self.tree, &tables::USUAL, &self.marks);
-        let fits = allowed && marks == self.marks && is_filed && run <= 5 * self.nodes;
+        let is_classed = classes == tables::classes(&self.tree, &tables::COMMON, &self.marks);
+        let fits = allowed && marks == self.marks && is_classed && run <= 5 * self.nodes;
         let same = self.trial.tally.compare(fits, || {
             let plan = hex(self.plan);
-            format!("no run of the central rule, or not filed by it: plan {plan} after {run} events, code {code} node {node}")
+            format!("no run of the central rule, or not classed by it: plan {plan} after {run} events, code {code} node {node}")
         });
         self.require(same)
     }
@@ -187,7 +187,7 @@ impl<'a, S: Implementation, R: Implementation> Job<'a, S, R> {
     }
 
     /// The job is over: the pass accepts agreeing answers and comes to the
-    /// same record.
+    /// same record, by the common table and by any other.
     fn over(&mut self) -> Result<(), Parted> {
         self.count_end();
         for _ in 0..2 {
@@ -213,15 +213,25 @@ impl<'a, S: Implementation, R: Implementation> Job<'a, S, R> {
         let own = self.trial.record_by(self.plan, &table, state, &marks, &classes).2.to_vec();
         let before = self.random.bytes(self.nodes);
         let (result, passed) = self.trial.pass(self.plan, answers, &before);
-        let filed = |table| tables::classes(&self.tree, table, &marks);
-        let same_classes = filed(&tables::USUAL) == classes && filed(&table) == own;
-        let same_record = number(result) == 0 && passed == marks && same_classes;
+        let same_marks = number(result) == 0 && passed == marks;
+        let classed = |table| tables::classes(&self.tree, table, &marks);
+        let same_classes = classed(&tables::COMMON) == classes && classed(&table) == own;
+        let by_common = self.pass_record(&tables::COMMON, answers) == Some((marks.clone(), classes));
+        let by_own = self.pass_record(&table, answers) == Some((marks.clone(), own));
+        let same_record = same_marks && same_classes && by_common && by_own;
         self.trial.tally.jobs.agreeing += 1;
         let same = self.trial.tally.compare(same_record, || {
             let (plan, answers, marks) = (hex(self.plan), hex(answers), hex(&marks));
             format!("the pass and the job differ: plan {plan} answers {answers} end record {marks}")
         });
         self.require(same)
+    }
+
+    /// The record of the pass by a table, unless it is refused.
+    fn pass_record(&mut self, table: &[u8], answers: &[u8]) -> Option<(Vec<u8>, Vec<u8>)> {
+        let (marks, classes) = (self.random.bytes(self.nodes), self.random.bytes(self.nodes));
+        let (result, marks, classes) = self.trial.pass_record(self.plan, table, answers, &marks, &classes);
+        (number(result) == 0).then(|| (marks.to_vec(), classes.to_vec()))
     }
 
     /// Answers that agree with the job's events; anything where those say

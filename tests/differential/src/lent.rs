@@ -88,10 +88,19 @@ impl Pair {
     }
 
     /// Whether both sides hold what was loaded with these bits set in one
-    /// byte; takes that as loaded from now on.
+    /// byte.
     pub fn has_only_set(&mut self, place: usize, bits: u8) -> bool {
+        let before = self.before[place];
         self.before[place] |= bits;
-        self.is_untouched()
+        let same = self.is_untouched();
+        self.before[place] = before;
+        same
+    }
+
+    /// Takes the byte that the reference holds at a place as loaded from now
+    /// on.
+    pub fn keep(&mut self, place: usize) {
+        self.before[place] = self.reference[place];
     }
 
     /// How many bytes there are.
@@ -129,6 +138,9 @@ mod tests {
         assert!(!pair.is_untouched());
         assert!(pair.agrees());
         assert!(pair.has_only_set(1, 1));
+        assert!(!pair.is_untouched());
+        pair.keep(1);
+        assert!(pair.is_untouched());
         pair.subject.bytes_mut()[2] |= 1;
         assert!(!pair.agrees());
         assert!(!pair.has_only_set(1, 1));

@@ -3,11 +3,13 @@
 //! The implementation under trial is called the *subject*. Everything is
 //! drawn from a seed, so every run can be repeated.
 //!
-//! * [`plans`], [`tables`], [`driver`] and [`texts`] make plans, filing tables,
-//!   rehearsal steps and rehearsal texts.
+//! * [`plans`], [`tables`], [`driver`] and [`texts`] make plans, tables of classes,
+//!   simulation steps and simulation texts.
 //! * [`trial`] makes one call on both sides and compares all that can be seen.
-//! * [`calls`] tries single calls, [`job`] whole rehearsals, [`texts`] the
-//!   program; [`run`] puts them in turn.
+//! * [`cases`] has cases with known answers; [`calls`] tries single calls,
+//!   [`job`] whole simulations, [`hosts`] the same with rows apart, [`texts`]
+//!   simulations from text, by the call and by the program; [`run`] puts them
+//!   in turn.
 //! * [`broken`] has copies of the reference with one mistake each, to show
 //!   that the comparison can fail.
 
@@ -15,8 +17,10 @@
 pub mod archive;
 pub mod broken;
 pub mod calls;
+pub mod cases;
 pub mod codes;
 pub mod driver;
+pub mod hosts;
 pub mod implementation;
 pub mod job;
 pub mod lent;

@@ -70,7 +70,7 @@ fn compare(name: &str, subject: impl Implementation, options: Options) -> ExitCo
     println!("time: {:.1} s", begin.elapsed().as_secs_f64());
     tally.described().iter().for_each(|difference| println!("difference: {difference}"));
     let mut missing = if options.only.is_some() { vec![] } else { tally.missing() };
-    missing.retain(|(function, _)| *function != Function::Rehearse || texts_are_compared());
+    missing.retain(|(function, _)| *function != Function::Program || texts_are_compared());
     missing.iter().for_each(|(function, number)| println!("never met: {} {number}", function.name()));
     println!("differential: {} comparisons, {} differences", tally.comparisons(), tally.differences());
     verdict(&tally, missing.is_empty())

@@ -1,4 +1,4 @@
-//! Runs a program that reads a rehearsal text and prints what becomes of it.
+//! Runs a program that reads a simulation text and prints what becomes of it.
 
 use std::io::Write;
 use std::path::PathBuf;
@@ -16,12 +16,12 @@ pub struct Program {
 
 impl Program {
     /// What the program prints for each text.
-    pub fn rehearse(&self, texts: &[Vec<u8>]) -> Vec<Vec<u8>> {
-        texts.chunks(BATCH).flat_map(|batch| self.rehearse_batch(batch)).collect()
+    pub fn print(&self, texts: &[Vec<u8>]) -> Vec<Vec<u8>> {
+        texts.chunks(BATCH).flat_map(|batch| self.print_batch(batch)).collect()
     }
 
     /// Starts one for each text, feeds all, then collects what they print.
-    fn rehearse_batch(&self, batch: &[Vec<u8>]) -> Vec<Vec<u8>> {
+    fn print_batch(&self, batch: &[Vec<u8>]) -> Vec<Vec<u8>> {
         let mut running: Vec<Child> = batch.iter().map(|_| self.start()).collect();
         thread::scope(|scope| {
             for (child, text) in running.iter_mut().zip(batch) {
@@ -34,7 +34,7 @@ impl Program {
 
     fn start(&self) -> Child {
         let mut command = Command::new(&self.path);
-        command.stdin(Stdio::piped()).stdout(Stdio::piped());
+        command.stdin(Stdio::piped()).stdout(Stdio::piped()).stderr(Stdio::null());
         command.spawn().unwrap_or_else(|error| panic!("{}: {error}", self.path.display()))
     }
 }
@@ -58,13 +58,13 @@ mod tests {
     fn texts_go_in_and_outputs_come_out_in_order() {
         let cat = Program { path: "/bin/cat".into() };
         let texts: Vec<Vec<u8>> = (0..40).map(|number| vec![number; usize::from(number) * 5000]).collect();
-        assert_eq!(cat.rehearse(&texts), texts);
+        assert_eq!(cat.print(&texts), texts);
     }
 
     /// `true` reads nothing at all.
     #[test]
     fn a_program_need_not_read() {
         let nothing = Program { path: "/bin/true".into() };
-        assert_eq!(nothing.rehearse(&vec![vec![b'x'; 200_000]; 3]), vec![vec![]; 3]);
+        assert_eq!(nothing.print(&vec![vec![b'x'; 200_000]; 3]), vec![vec![]; 3]);
     }
 }

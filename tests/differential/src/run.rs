@@ -6,12 +6,18 @@ use crate::plans;
 use crate::random::Random;
 use crate::tally::Tally;
 use crate::trial::Trial;
-use crate::{calls, job, texts};
+use crate::{calls, cases, hosts, job, texts};
 
 /// Texts in one part of a run.
 const TEXTS_IN_A_PART: usize = 64;
+/// Three times so many texts are given to the call in one part of a run.
+const TEXTS_CALLED: usize = 4;
 /// The part that tries every row of an only child.
 pub const ONLY_CHILD_PART: u64 = 1 << 39;
+/// The part with the cases whose answers are known.
+pub const CASES_PART: u64 = ONLY_CHILD_PART + 1;
+/// The first of the parts with hosts; every 32nd is one.
+pub const HOSTS_PART: u64 = 23;
 /// Where the parts with texts begin to be numbered.
 const FIRST_TEXT_PART: u64 = 1 << 40;
 
@@ -54,8 +60,10 @@ pub fn run_against(subject: impl Implementation, reference: impl Implementation,
         run_part(&mut trial, options.seed, part);
         part += 1;
     }
-    if trial.tally.differences() < options.enough {
-        run_part(&mut trial, options.seed, ONLY_CHILD_PART);
+    for part in [ONLY_CHILD_PART, CASES_PART] {
+        if trial.tally.differences() < options.enough {
+            run_part(&mut trial, options.seed, part);
+        }
     }
     let mut part = FIRST_TEXT_PART;
     while trial.tally.texts < options.texts && trial.tally.differences() < options.enough {
@@ -74,6 +82,9 @@ fn run_part<S: Implementation, R: Implementation>(trial: &mut Trial<S, R>, seed:
     if part == ONLY_CHILD_PART {
         return calls::only_child(trial);
     }
+    if part == CASES_PART {
+        return cases::run(trial);
+    }
     let plan = if part % 128 == 39 { large_plan(random) } else { any_plan(random) };
     match part % 32 {
         0 | 16 => calls::damaged_plans(trial, random),
@@ -84,14 +95,16 @@ fn run_part<S: Implementation, R: Implementation>(trial: &mut Trial<S, R>, seed:
         5 | 21 => calls::states(trial, random, &plan),
         6 => calls::lengths(trial, random, &plan),
         22 => calls::rewrites(trial, random, &plan),
-        7 => job::rehearse(trial, random, &plan),
+        23 => all_hosts(trial, random),
+        24 => texts::calls(trial, random, TEXTS_CALLED),
+        7 => job::simulate(trial, random, &plan),
         8 | 9 => jobs(trial, random, 20, 60, 1),
         10..=15 => jobs(trial, random, 8, 20, 1),
         _ => jobs(trial, random, 1, 8, 4),
     }
 }
 
-/// Rehearsals of plans between two sizes.
+/// Simulations of plans between two sizes.
 fn jobs<S: Implementation, R: Implementation>(
     trial: &mut Trial<S, R>,
     random: &mut Random,
@@ -102,7 +115,15 @@ fn jobs<S: Implementation, R: Implementation>(
     for _ in 0..count {
         let nodes = random.between(least, most);
         let plan = plans::of_size(random, nodes);
-        job::rehearse(trial, random, &plan);
+        job::simulate(trial, random, &plan);
+    }
+}
+
+/// Jobs of hosts, of small and middle plans.
+fn all_hosts<S: Implementation, R: Implementation>(trial: &mut Trial<S, R>, random: &mut Random) {
+    for most in [4, 8, 8, 24] {
+        let plan = plans::up_to(random, most);
+        hosts::run(trial, random, &plan);
     }
 }
 

@@ -1,18 +1,18 @@
-//! Filing tables, good and damaged, and what they make of a record.
+//! Tables of classes, good and damaged, and what they make of a record.
 
 use crate::codes::TASK;
 use crate::driver::Tree;
 use crate::random::Random;
 
 /// The table that is used where none is handed in.
-pub const USUAL: [u8; 12] = [0, 0, 1, 3, 2, 3, 3, 1, 4, 2, 5, 2];
+pub const COMMON: [u8; 12] = [0, 0, 1, 3, 2, 3, 3, 1, 4, 2, 5, 2];
 
 /// A table that is accepted.
 pub fn sound(random: &mut Random) -> [u8; 12] {
     if random.chance(10) {
-        return USUAL;
+        return COMMON;
     }
-    let mut table = USUAL;
+    let mut table = COMMON;
     table.iter_mut().skip(3).step_by(2).for_each(|class| *class = random.below(4) as u8);
     table
 }
@@ -23,7 +23,7 @@ pub fn damaged(random: &mut Random) -> Vec<u8> {
     let frame = 2 * random.below(6);
     match random.below(10) {
         0 => table.truncate(random.below(12)),
-        1 => table.extend(random.one_of(&[&[6, 0][..], &[5, 2], &[0], &USUAL])),
+        1 => table.extend(random.one_of(&[&[6, 0][..], &[5, 2], &[0], &COMMON])),
         2 => table[frame] = random.one_of(&[0, 1, 2, 3, 4, 5, 6, 255]),
         3 => table[frame + 1] = random.one_of(&[4, 5, 128, 255]),
         4 => table[1] = random.one_of(&[1, 2, 3, 4, 255]),
@@ -47,7 +47,7 @@ pub fn any(random: &mut Random) -> Vec<u8> {
 /// must say. Blocks have none; a committed task counts as turned down below a
 /// block that is lost, and as offered below one that isn't through.
 pub fn classes(tree: &Tree, table: &[u8; 12], marks: &[u8]) -> Vec<u8> {
-    let filed_as = |node: usize| {
+    let counts_as = |node: usize| {
         let above: Vec<u8> = tree.above(node).into_iter().map(|block| marks[block]).collect();
         match marks[node] {
             3 if above.contains(&4) || above.contains(&5) => 5,
@@ -56,7 +56,7 @@ pub fn classes(tree: &Tree, table: &[u8; 12], marks: &[u8]) -> Vec<u8> {
         }
     };
     let class = |mark: u8| table[2 * usize::from(mark) + 1];
-    (0..marks.len()).map(|node| if tree.kind(node) == TASK { class(filed_as(node)) } else { 0 }).collect()
+    (0..marks.len()).map(|node| if tree.kind(node) == TASK { class(counts_as(node)) } else { 0 }).collect()
 }
 
 #[cfg(test)]

@@ -30,15 +30,23 @@ pub enum Function {
     Record,
     /// `vulcedar_record_by`
     RecordBy,
+    /// `vulcedar_check_table`
+    CheckTable,
+    /// `vulcedar_pass_record`
+    PassRecord,
     /// `vulcedar_central`
     Central,
+    /// `vulcedar_rehearse`
+    Rehearse,
+    /// `vulcedar_version`
+    Version,
     /// The program `rehearse`; a refused plan or text counts once, otherwise
     /// each step counts.
-    Rehearse,
+    Program,
 }
 
 /// How many functions there are.
-const FUNCTIONS: usize = 13;
+const FUNCTIONS: usize = 17;
 /// One more than the highest number; 0 is passed.
 const NUMBERS: usize = 22;
 
@@ -56,8 +64,12 @@ impl Function {
         Function::Simulate,
         Function::Record,
         Function::RecordBy,
+        Function::CheckTable,
+        Function::PassRecord,
         Function::Central,
         Function::Rehearse,
+        Function::Version,
+        Function::Program,
     ];
 
     /// Its name in the table.
@@ -74,13 +86,17 @@ impl Function {
             Function::Simulate => "simulate",
             Function::Record => "record",
             Function::RecordBy => "record_by",
+            Function::CheckTable => "check_table",
+            Function::PassRecord => "pass_record",
             Function::Central => "central",
             Function::Rehearse => "rehearse",
+            Function::Version => "version",
+            Function::Program => "program",
         }
     }
 
     /// The numbers it can answer. A text can't have a buffer of a wrong
-    /// length, so `rehearse` has no 7.
+    /// length, so the program has no 7.
     pub fn numbers(self) -> &'static [u8] {
         match self {
             Function::Check => &[0, 1, 2, 3, 4, 5, 6],
@@ -91,15 +107,19 @@ impl Function {
             Function::Simulate => &[0, 1, 2, 3, 4, 5, 6, 7, 8, 9, 10, 11, 12],
             Function::Rewrite | Function::Record | Function::CheckDepths => &[0, 1, 2, 3, 4, 5, 6, 7],
             Function::RecordBy => &[0, 1, 2, 3, 4, 5, 6, 7, 21],
-            Function::Rehearse => &[0, 1, 2, 3, 4, 5, 6, 8, 9, 10, 11, 12, 15, 21],
+            Function::CheckTable => &[0, 21],
+            Function::PassRecord => &[0, 1, 2, 3, 4, 5, 6, 7, 13, 14, 21],
+            Function::Rehearse => &[0, 1, 2, 3, 4, 5, 6, 7, 15, 21],
+            Function::Version => &[0],
+            Function::Program => &[0, 1, 2, 3, 4, 5, 6, 8, 9, 10, 11, 12, 15, 21],
         }
     }
 }
 
-/// Counts over whole rehearsals.
+/// Counts over whole simulations.
 #[derive(Default)]
 pub struct Jobs {
-    /// Rehearsals begun.
+    /// Simulations begun.
     pub begun: u64,
     /// Of these, brought to the end.
     pub over: u64,
@@ -115,6 +135,8 @@ pub struct Jobs {
     pub messages: u64,
     /// Answer lists that agreed with a job's events.
     pub agreeing: u64,
+    /// Steps of hosts, compared with the simulation's.
+    pub of_hosts: u64,
 }
 
 /// A count for each rule byte.
@@ -136,7 +158,7 @@ pub struct Tally {
     pub not_allowed: u64,
     /// How often an event passed by each rule.
     rules: Rules,
-    /// Counts over whole rehearsals.
+    /// Counts over whole simulations.
     pub jobs: Jobs,
     /// Texts given to the program.
     pub texts: u64,
@@ -211,12 +233,12 @@ impl fmt::Display for Tally {
     fn fmt(&self, out: &mut fmt::Formatter) -> fmt::Result {
         let is_used = |number: &u8| Function::ALL.iter().any(|function| function.numbers().contains(number));
         let used: Vec<u8> = (0..NUMBERS as u8).filter(is_used).collect();
-        write!(out, "{:<9}", "number")?;
+        write!(out, "{:<12}", "number")?;
         for number in &used {
             write!(out, "{number:>9}")?;
         }
         for function in Function::ALL {
-            write!(out, "\n{:<9}", function.name())?;
+            write!(out, "\n{:<12}", function.name())?;
             for number in &used {
                 let count = self.counts[function as usize][usize::from(*number)];
                 if function.numbers().contains(number) || count > 0 {
@@ -230,14 +252,15 @@ impl fmt::Display for Tally {
         writeln!(out, "\ncentral rule: {} allowed, {} not allowed", self.allowed, self.not_allowed)?;
         writeln!(
             out,
-            "rehearsals: {} begun, {} over ({} committed, {} failed; {} of 100 nodes or more)",
+            "simulations: {} begun, {} over ({} committed, {} failed; {} of 100 nodes or more)",
             jobs.begun, jobs.over, jobs.committed, jobs.failed, jobs.large
         )?;
         writeln!(
             out,
-            "            {} events, {} messages, {} agreeing answer lists",
+            "             {} events, {} messages, {} agreeing answer lists",
             jobs.events, jobs.messages, jobs.agreeing
         )?;
+        writeln!(out, "             {} steps of hosts with rows of their own", jobs.of_hosts)?;
         writeln!(out, "rules of passed events: {} different", self.rules())?;
         writeln!(out, "texts: {}", self.texts)?;
         write!(out, "simulate and step calls: {}", self.steps())

@@ -1,6 +1,7 @@
-//! Rehearsal texts for the program: sound ones, damaged ones and noise.
+//! Simulation texts, sound ones, damaged ones and noise, for the program and
+//! for the call.
 
-use crate::codes::number;
+use crate::codes::{number, value};
 use crate::driver::{Driver, Step, Temper};
 use crate::implementation::{Implementation, Reference};
 use crate::plans;
@@ -9,25 +10,79 @@ use crate::tables;
 use crate::tally::Function;
 use crate::trial::Trial;
 
-/// The longest text the program reads.
+/// The longest text that is read.
 const MOST_BYTES: usize = 32_768;
+/// How many bytes must be lent for a text's lines.
+pub const OUT_BYTES: usize = 16_384;
 
-/// Gives the program so many texts and compares what it prints.
+/// Gives the program so many texts and compares what it prints, with the
+/// reference's program and with the subject's own call.
 pub fn run<S: Implementation, R: Implementation>(trial: &mut Trial<S, R>, random: &mut Random, count: usize) {
     let texts: Vec<Vec<u8>> = (0..count).map(|_| any(random)).collect();
-    let theirs = trial.subject.rehearse(&texts);
-    let ours = trial.reference.rehearse(&texts);
+    let theirs = trial.subject.print(&texts);
+    let ours = trial.reference.print(&texts);
     for ((text, ours), theirs) in texts.iter().zip(&ours).zip(&theirs) {
         count_numbers(trial, text, ours);
         trial.tally.texts += 1;
         trial.tally.compare(ours == theirs, || describe(text, ours, theirs));
+        let called = lines_of_call(trial, random, text);
+        trial
+            .tally
+            .compare(called == *theirs, || format!("call, program: {}", describe(text, &called, theirs)));
+    }
+}
+
+/// Gives the call so many texts, and bytes of any number. The lines of a sound
+/// text must be what the subject's own steps and record come to.
+pub fn calls<S: Implementation, R: Implementation>(
+    trial: &mut Trial<S, R>,
+    random: &mut Random,
+    count: usize,
+) {
+    for _ in 0..count {
+        for text in [any(random), with_damaged_plan(random)] {
+            let length = out_length(random);
+            trial.rehearse(&text, &random.bytes(length));
+        }
+        let sound = Sound::any(random);
+        let text = sound.text();
+        let called = lines_of_call(trial, random, &text);
+        let expected = sound.lines(&mut trial.subject);
+        trial
+            .tally
+            .compare(called == expected, || format!("steps, call: {}", describe(&text, &expected, &called)));
+    }
+}
+
+/// What the program must print by what the subject's call answers.
+fn lines_of_call<S: Implementation, R: Implementation>(
+    trial: &mut Trial<S, R>,
+    random: &mut Random,
+    text: &[u8],
+) -> Vec<u8> {
+    let before = vec![random.byte(); OUT_BYTES];
+    let (result, out) = trial.rehearse(text, &before);
+    match number(result) {
+        0 => out[..value(result) as usize].to_vec(),
+        refused => format!("{refused:02x}\n").into_bytes(),
+    }
+}
+
+/// A number of bytes for the lines, enough in most cases.
+fn out_length(random: &mut Random) -> usize {
+    match random.below(8) {
+        0 => 0,
+        1 => OUT_BYTES - 1,
+        2 => random.below(OUT_BYTES),
+        3 => OUT_BYTES + random.below(100),
+        _ => OUT_BYTES,
     }
 }
 
 /// A text of any sort.
 fn any(random: &mut Random) -> Vec<u8> {
     match random.below(22) {
-        0..=8 => sound(random),
+        0..=8 => Sound::any(random).text(),
         9..=15 => damaged(random),
         16 => with_damaged_plan(random),
         20 | 21 => with_damaged_table(random),
@@ -37,18 +92,70 @@ fn any(random: &mut Random) -> Vec<u8> {
     }
 }
 
-/// A valid text: a plan and the steps of a rehearsal of it.
-fn sound(random: &mut Random) -> Vec<u8> {
-    let most = random.one_of(&[1, 3, 6, 6, 12, 12, 30, 160]);
-    let plan = plans::up_to(random, most);
-    let table = if random.chance(40) { table_text(&tables::sound(random)) } else { vec![] };
-    let most_steps = (MOST_BYTES - table.len() - plan.len() / 2 * 5 - 3) / 7;
-    let steps = random.one_of(&[0, 5, 50, 400, most_steps]);
-    let steps = steps_of(random, &plan, steps.min(most_steps));
-    [table, text_of(&plan, &steps)].concat()
+/// What a valid text says: a plan, the steps of a simulation of it, and
+/// perhaps a table.
+pub struct Sound {
+    table: Option<[u8; 12]>,
+    plan: Vec<u8>,
+    steps: Vec<[u8; 3]>,
 }
 
-/// Steps of a rehearsal with numbers of one byte.
+impl Sound {
+    /// What a text says that the reference accepts.
+    pub fn read(text: &[u8]) -> Sound {
+        let mut sound = Sound { table: None, plan: vec![], steps: vec![] };
+        for line in text.split(|&byte| byte == b'\n') {
+            let digits = String::from_utf8_lossy(line);
+            match (line, u32::from_str_radix(&digits, 16)) {
+                (b"==", _) => sound.table = std::mem::take(&mut sound.plan).try_into().ok(),
+                (_, Ok(frame)) if line.len() == 4 => sound.plan.extend(&frame.to_be_bytes()[2..]),
+                (_, Ok(frame)) => {
+                    let [_, code, node, site] = frame.to_be_bytes();
+                    sound.steps.push([code, node, site]);
+                }
+                _ => {}
+            }
+        }
+        sound
+    }
+
+    /// Any of them.
+    fn any(random: &mut Random) -> Sound {
+        let most = random.one_of(&[1, 3, 6, 6, 12, 12, 30, 160]);
+        let plan = plans::up_to(random, most);
+        let table = random.chance(40).then(|| tables::sound(random));
+        let table_length = if table.is_some() { 6 * 5 + 3 } else { 0 };
+        let most_steps = (MOST_BYTES - table_length - plan.len() / 2 * 5 - 3) / 7;
+        let steps = random.one_of(&[0, 5, 50, 400, most_steps]);
+        let steps = steps_of(random, &plan, steps.min(most_steps));
+        Sound { table, plan, steps }
+    }
+
+    fn text(&self) -> Vec<u8> {
+        let table = self.table.map_or(vec![], |table| table_text(&table));
+        [table, text_of(&self.plan, &self.steps)].concat()
+    }
+
+    /// A line for each step by itself, then one for each node of the record.
+    pub fn lines(&self, subject: &mut impl Implementation) -> Vec<u8> {
+        let nodes = self.plan.len() / 2;
+        let (mut state, mut marks, mut classes) = (vec![0; nodes * nodes], vec![0; nodes], vec![0; nodes]);
+        let mut lines = String::new();
+        for [code, node, site] in self.steps.iter().map(|step| step.map(u32::from)) {
+            let result = subject.simulate(&self.plan, code, node, site, &mut state);
+            lines += &format!("{:02x}\n", number(result));
+        }
+        let table = self.table.unwrap_or(tables::COMMON);
+        subject.record_by(&self.plan, &table, &state, &mut marks, &mut classes);
+        for node in 0..nodes {
+            let kind = self.plan[2 * node];
+            lines += &format!("{node:02x}{kind:02x}{:02x}{:02x}\n", marks[node], classes[node]);
+        }
+        lines.into_bytes()
+    }
+}
+
+/// Steps of a simulation with numbers of one byte.
 fn steps_of(random: &mut Random, plan: &[u8], most: usize) -> Vec<[u8; 3]> {
     let nodes = plan.len() / 2;
     let mut state = vec![0; nodes * nodes];
@@ -129,7 +236,7 @@ fn at_the_limit(random: &mut Random) -> Vec<u8> {
 
 /// A sound text with one or two changes.
 fn damaged(random: &mut Random) -> Vec<u8> {
-    let mut text = sound(random);
+    let mut text = Sound::any(random).text();
     text.truncate(random.one_of(&[700, 3000, MOST_BYTES]));
     if random.chance(70) && text.last() != Some(&b'\n') {
         let whole = text.iter().rposition(|&byte| byte == b'\n').map_or(0, |place| place + 1);
@@ -223,7 +330,7 @@ fn count_numbers<S: Implementation, R: Implementation>(trial: &mut Trial<S, R>, 
         let digits = std::str::from_utf8(line).ok();
         let number = digits.and_then(|digits| u8::from_str_radix(digits, 16).ok());
         let number = number.unwrap_or_else(|| panic!("the reference prints numbers for {text:?}"));
-        trial.tally.count(Function::Rehearse, number);
+        trial.tally.count(Function::Program, number);
     }
 }
 
@@ -246,9 +353,10 @@ mod tests {
     fn sound_texts_are_accepted() {
         let mut random = Random::new(5);
         for _ in 0..200 {
-            let text = sound(&mut random);
+            let text = Sound::any(&mut random).text();
             assert!(text.len() <= MOST_BYTES);
             assert_ne!(reference::rehearse(&text), b"0f\n");
+            assert_eq!(Sound::read(&text).lines(&mut Reference), reference::rehearse(&text));
         }
     }
 

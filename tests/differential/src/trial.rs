@@ -2,9 +2,11 @@
 //! canaries around them, and what the rules say about bytes that stay: a
 //! refused call leaves all, a passed step sets one bit.
 
-use crate::codes::{AND, HAPPENS, PICK, WAITING_AND, number, value};
+use crate::codes::{AND, HAPPENS, PICK, TASK, WAITING_AND, number, site, value};
+use crate::driver::Tree;
 use crate::implementation::Implementation;
 use crate::lent::{Lent, Pair};
+use crate::tables;
 use crate::tally::{Function, Tally};
 
 /// Both sides, and what has been counted.
@@ -89,7 +91,8 @@ impl<S: Implementation, R: Implementation> Trial<S, R> {
         ours
     }
 
-    /// Writes a guard to a buffer that holds these bytes.
+    /// Writes a guard to a buffer that holds these bytes. Its rule must be the
+    /// one that the subject gives to the question for it.
     pub fn guard(&mut self, plan: &[u8], code: u32, node: u32, buffer: &[u8]) -> u32 {
         self.plan.load(plan);
         self.one.load(buffer);
@@ -97,7 +100,11 @@ impl<S: Implementation, R: Implementation> Trial<S, R> {
         let ours = self.reference.guard(plan, code, node, &mut self.one.reference);
         let length = value(ours) as usize;
         let rest_stays = self.one.subject.bytes()[length..] == buffer[length..];
-        let same = self.one.agrees() && rest_stays;
+        let has_rule = match number(theirs) {
+            0 => self.subject.rule(plan, code, node) == site(theirs) << 16,
+            refused => theirs == u32::from(refused),
+        };
+        let same = self.one.agrees() && rest_stays && has_rule;
         let call = Call { function: Function::Guard, plan, numbers: &[code, node], lent: &[buffer] };
         self.judge(call, ours, theirs, same);
         ours
@@ -123,29 +130,49 @@ impl<S: Implementation, R: Implementation> Trial<S, R> {
         self.subject.rule(plan, code, node) == value(theirs) << 16
     }
 
-    /// An event at its site.
+    /// An event at its site, on a row of its own.
     pub fn step(&mut self, plan: &[u8], code: u32, node: u32, row: &[u8]) -> u32 {
-        self.plan.load(plan);
-        self.one.load(row);
-        let theirs = self.subject.step(self.plan.bytes(), code, node, self.one.subject.bytes_mut());
-        let ours = self.reference.step(plan, code, node, &mut self.one.reference);
-        let has_rule = self.has_its_rule(plan, code, node, HAPPENS, theirs);
-        let same = is_bit_set(&mut self.one, ours, code, node as usize) && has_rule;
-        let call = Call { function: Function::Step, plan, numbers: &[code, node], lent: &[row] };
-        self.judge(call, ours, theirs, same);
+        let mut pair = std::mem::take(&mut self.one);
+        pair.load(row);
+        let (ours, _) = self.step_on(plan, code, node, &mut pair);
+        self.one = pair;
         ours
     }
 
-    /// A message into a row.
-    pub fn hear(&mut self, plan: &[u8], code: u32, node: u32, row: &[u8]) -> u32 {
+    /// An event at its site, on a row that goes on; answers also whether both
+    /// sides came to the same.
+    pub fn step_on(&mut self, plan: &[u8], code: u32, node: u32, row: &mut Pair) -> (u32, bool) {
         self.plan.load(plan);
-        self.one.load(row);
-        let theirs = self.subject.hear(self.plan.bytes(), code, node, self.one.subject.bytes_mut());
-        let ours = self.reference.hear(plan, code, node, &mut self.one.reference);
-        let same = is_bit_set(&mut self.one, ours, code, node as usize);
-        let call = Call { function: Function::Hear, plan, numbers: &[code, node], lent: &[row] };
-        self.judge(call, ours, theirs, same);
+        let theirs = self.subject.step(self.plan.bytes(), code, node, row.subject.bytes_mut());
+        let ours = self.reference.step(plan, code, node, &mut row.reference);
+        let has_rule = self.has_its_rule(plan, code, node, HAPPENS, theirs);
+        let same = is_bit_set(row, ours, code, node as usize) && has_rule;
+        let call = Call { function: Function::Step, plan, numbers: &[code, node], lent: &[row.before()] };
+        let fine = self.judge(call, ours, theirs, same);
+        keep_bit(row, ours, node as usize);
+        (ours, fine)
+    }
+
+    /// A message into a row of its own.
+    pub fn hear(&mut self, plan: &[u8], code: u32, node: u32, row: &[u8]) -> u32 {
+        let mut pair = std::mem::take(&mut self.one);
+        pair.load(row);
+        let (ours, _) = self.hear_on(plan, code, node, &mut pair);
+        self.one = pair;
         ours
+    }
+
+    /// A message into a row that goes on; answers also whether both sides
+    /// came to the same.
+    pub fn hear_on(&mut self, plan: &[u8], code: u32, node: u32, row: &mut Pair) -> (u32, bool) {
+        self.plan.load(plan);
+        let theirs = self.subject.hear(self.plan.bytes(), code, node, row.subject.bytes_mut());
+        let ours = self.reference.hear(plan, code, node, &mut row.reference);
+        let same = is_bit_set(row, ours, code, node as usize);
+        let call = Call { function: Function::Hear, plan, numbers: &[code, node], lent: &[row.before()] };
+        let fine = self.judge(call, ours, theirs, same);
+        keep_bit(row, ours, node as usize);
+        (ours, fine)
     }
 
     /// The single pass, into marks that hold these bytes; answers the
@@ -253,7 +280,7 @@ impl<S: Implementation, R: Implementation> Trial<S, R> {
         (ours, self.one.subject.bytes(), self.two.subject.bytes())
     }
 
-    /// A step of a rehearsal on a state of its own.
+    /// A step of a simulation on a state of its own.
     pub fn simulate(&mut self, plan: &[u8], code: u32, node: u32, site: u32, state: &[u8]) -> u32 {
         let mut pair = std::mem::take(&mut self.one);
         pair.load(state);
@@ -262,7 +289,7 @@ impl<S: Implementation, R: Implementation> Trial<S, R> {
         ours
     }
 
-    /// A step of a rehearsal on a state that goes on; answers also whether
+    /// A step of a simulation on a state that goes on; answers also whether
     /// both sides came to the same.
     pub fn simulate_on(
         &mut self,
@@ -281,7 +308,106 @@ impl<S: Implementation, R: Implementation> Trial<S, R> {
         let short = &state.before()[..state.length().min(400)];
         let call = Call { function: Function::Simulate, plan, numbers: &[code, node, site], lent: &[short] };
         let fine = self.judge(call, ours, theirs, same);
+        keep_bit(state, ours, place);
         (ours, fine)
+    }
+
+    /// Checks a table. The subject must say the same of it where it takes one
+    /// for a record.
+    pub fn check_table(&mut self, table: &[u8]) -> u32 {
+        self.plan.load(&[]);
+        self.table.load(table);
+        let theirs = self.subject.check_table(self.table.bytes());
+        let ours = self.reference.check_table(table);
+        let taken = self.subject.record_by(&[TASK, 0xff], table, &[0], &mut [0], &mut [0]);
+        let same = self.table.is_still(table) && theirs == taken;
+        let call = Call { function: Function::CheckTable, plan: &[], numbers: &[], lent: &[table] };
+        self.judge(call, ours, theirs, same);
+        ours
+    }
+
+    /// The record of the pass by a table, into marks and classes that hold
+    /// these bytes; answers the subject's marks and classes too.
+    pub fn pass_record(
+        &mut self,
+        plan: &[u8],
+        table: &[u8],
+        answers: &[u8],
+        marks: &[u8],
+        classes: &[u8],
+    ) -> (u32, &[u8], &[u8]) {
+        self.plan.load(plan);
+        self.read.load(answers);
+        self.table.load(table);
+        self.one.load(marks);
+        self.two.load(classes);
+        let (subject_marks, subject_classes) = (&mut self.one.subject, &mut self.two.subject);
+        let theirs = self.subject.pass_record(
+            self.plan.bytes(),
+            self.table.bytes(),
+            self.read.bytes(),
+            subject_marks.bytes_mut(),
+            subject_classes.bytes_mut(),
+        );
+        let ours = self.reference.pass_record(
+            plan,
+            table,
+            answers,
+            &mut self.one.reference,
+            &mut self.two.reference,
+        );
+        let refused_leaves = number(ours) == 0 || (self.one.is_untouched() && self.two.is_untouched());
+        let read_stays = self.read.is_still(answers) && self.table.is_still(table);
+        let is_the_pass = ours == theirs && self.is_record_of_pass(plan, table, answers, theirs);
+        let same = self.one.agrees() && self.two.agrees() && refused_leaves && read_stays && is_the_pass;
+        let lent = &[table, answers, marks, classes];
+        let call = Call { function: Function::PassRecord, plan, numbers: &[], lent };
+        self.judge(call, ours, theirs, same);
+        (ours, self.one.subject.bytes(), self.two.subject.bytes())
+    }
+
+    /// Whether the subject's record has the marks of its own pass, classed as
+    /// the rules say, or its fault.
+    fn is_record_of_pass(&mut self, plan: &[u8], table: &[u8], answers: &[u8], theirs: u32) -> bool {
+        let mut marks = vec![0; self.one.length()];
+        let passed = self.subject.pass(plan, answers, &mut marks);
+        match (theirs, table.try_into()) {
+            (0, Ok(table)) => {
+                let classes = tables::classes(&Tree::new(plan), table, &marks);
+                passed == 0 && self.one.subject.bytes() == marks && self.two.subject.bytes() == classes
+            }
+            (13 | 14, _) => passed == theirs,
+            _ => theirs != 0,
+        }
+    }
+
+    /// A simulation from text into bytes that hold these; answers the
+    /// subject's bytes too. The lines stand at the front, the rest stays.
+    pub fn rehearse(&mut self, text: &[u8], out: &[u8]) -> (u32, &[u8]) {
+        self.plan.load(&[]);
+        self.read.load(text);
+        self.one.load(out);
+        let theirs = self.subject.rehearse(self.read.bytes(), self.one.subject.bytes_mut());
+        let ours = self.reference.rehearse(text, &mut self.one.reference);
+        let length = value(theirs) as usize;
+        let rest_stays = self.one.subject.bytes().get(length..) == out.get(length..);
+        let refused_is_a_number = number(theirs) == 0 || theirs == u32::from(number(theirs));
+        let same = self.one.agrees() && rest_stays && refused_is_a_number && self.read.is_still(text);
+        let short = &text[..text.len().min(600)];
+        let numbers = &[text.len() as u32, out.len() as u32];
+        let call = Call { function: Function::Rehearse, plan: &[], numbers, lent: &[short] };
+        self.judge(call, ours, theirs, same);
+        (ours, self.one.subject.bytes())
+    }
+
+    /// The version, as the subject says it.
+    pub fn version(&mut self) -> u32 {
+        self.plan.load(&[]);
+        let theirs = self.subject.version();
+        let ours = self.reference.version();
+        let call = Call { function: Function::Version, plan: &[], numbers: &[], lent: &[] };
+        self.judge(call, ours, theirs, true);
+        theirs
     }
 
     /// Counts a call and compares its results; `same` says whether the bytes
@@ -298,7 +424,11 @@ impl<S: Implementation, R: Implementation> Trial<S, R> {
 
 impl Call<'_> {
     fn describe(&self) -> String {
-        let lent: Vec<String> = self.lent.iter().map(|bytes| hex(bytes)).collect();
+        let shown = |bytes: &&[u8]| match self.function {
+            Function::Rehearse => format!("{:?}", String::from_utf8_lossy(bytes)),
+            _ => hex(bytes),
+        };
+        let lent: Vec<String> = self.lent.iter().map(shown).collect();
         format!(
             "{} plan {} {:?} lent {}",
             self.function.name(),
@@ -339,4 +469,11 @@ fn place_in_state(plan: &[u8], code: u32, node: u32, site: u32) -> usize {
 /// nothing at all.
 fn is_bit_set(pair: &mut Pair, result: u32, code: u32, place: usize) -> bool {
     if number(result) == 0 { pair.has_only_set(place, 1 << (code - 1)) } else { pair.is_untouched() }
+}
+
+/// What a passed step set is there for the next one.
+fn keep_bit(pair: &mut Pair, result: u32, place: usize) {
+    if number(result) == 0 {
+        pair.keep(place);
+    }
 }

@@ -3,7 +3,7 @@
 
 use differential::Reference;
 use differential::broken::{Broken, Mistake};
-use differential::run::{ONLY_CHILD_PART, Options, run, run_against};
+use differential::run::{CASES_PART, HOSTS_PART, ONLY_CHILD_PART, Options, run, run_against};
 
 #[test]
 fn two_copies_of_the_reference_agree() {
@@ -14,6 +14,7 @@ fn two_copies_of_the_reference_agree() {
     assert!(tally.steps() >= options.steps);
     assert_eq!(tally.rules(), 37);
     assert!(tally.jobs.over > 500 && tally.jobs.committed > 100 && tally.jobs.failed > 100);
+    assert!(tally.jobs.of_hosts > 10_000, "{}", tally.jobs.of_hosts);
 }
 
 #[test]
@@ -51,7 +52,7 @@ fn a_mistake_on_both_sides_is_found() {
         Mistake::AnswersReadEverywhere,
         Mistake::LosersStayOffered,
         Mistake::OfferedBeforeTurnedDown,
-        Mistake::BlocksAreFiled,
+        Mistake::BlocksAreClassed,
         Mistake::CentralPicksTwice,
         Mistake::CentralAndWaits,
         Mistake::CentralWaitingAndFailsAtOnce,
@@ -65,21 +66,90 @@ fn a_mistake_on_both_sides_is_found() {
         Mistake::RuleWithRefusals,
         Mistake::TableIgnored,
         Mistake::TableStays,
-        Mistake::TableFilesBlocks,
+        Mistake::TableClassesBlocks,
         Mistake::AiredInAnyBlock,
         Mistake::OnlyTheParentCounts,
         Mistake::AiredBeforeTheEnd,
         Mistake::OpenBeforeLost,
         Mistake::AllTasksOfALostBlock,
         Mistake::LostAsFailed,
-        Mistake::LostByTheUsualTable,
+        Mistake::LostByTheCommonTable,
         Mistake::LostTasksAreMarked,
+        Mistake::GuardRuleLeftOut,
+        Mistake::GuardRuleWithRefusals,
+        Mistake::CheckTableTakesNone,
+        Mistake::CheckTableByLength,
+        Mistake::PassRecordByTheCommonTable,
+        Mistake::PassRecordOfEachAlone,
+        Mistake::PassRecordWithoutTable,
+        Mistake::RefusedPassRecordWrites,
+        Mistake::RehearseWritesRefusals,
+        Mistake::RehearseClearsTheRest,
+        Mistake::RehearseLengthLeftOut,
+        Mistake::SimulationSeesAllRows,
+        Mistake::HearRefusesRepeats,
     ];
     let options = Options { seed: 15, steps: 1_000_000, texts: 0, enough: 1, only: None };
     for mistake in mistakes {
         let tally = run_against(Broken::new(mistake), Broken::new(mistake), options);
         assert_ne!(tally.differences(), 0, "{mistake:?} on both sides is not found");
+        assert!(tally.part < ONLY_CHILD_PART, "{mistake:?} is found in the fixed parts alone");
         println!("{mistake:?}: found after {} comparisons", tally.comparisons());
+    }
+}
+
+/// The cases have one right answer each, so mistakes on both sides are found.
+#[test]
+fn cases_have_their_answers() {
+    let options = Options { only: Some(CASES_PART), ..Options::default() };
+    let tally = run(Reference, options);
+    assert_eq!((tally.comparisons(), tally.differences()), (18, 0), "{:#?}", tally.described());
+    let mistakes = [
+        Mistake::VersionInTheLowestByte,
+        Mistake::VersionOneHigher,
+        Mistake::SameGuardForAll,
+        Mistake::SelfAmongSiblings,
+        Mistake::StartRuleByOwnKind,
+        Mistake::GuardRuleLeftOut,
+        Mistake::LosersStayOffered,
+        Mistake::AiredInAnyBlock,
+        Mistake::RefusedPassWrites,
+        Mistake::PassRecordOfEachAlone,
+        Mistake::RefusedPassRecordWrites,
+        Mistake::RehearseLengthLeftOut,
+        Mistake::RehearseClearsTheRest,
+        Mistake::FalseMessageBelieved,
+        Mistake::SetsNothing,
+    ];
+    for mistake in mistakes {
+        let tally = run_against(Broken::new(mistake), Broken::new(mistake), options);
+        assert_ne!(tally.differences(), 0, "{mistake:?} on both sides is not found");
+    }
+}
+
+/// Hosts with rows of their own find what only the simulation does wrong, or
+/// only a site, even if both sides do.
+#[test]
+fn hosts_are_held_against_the_simulation() {
+    let parts = || (0..20).map(|place| HOSTS_PART + 32 * place);
+    let only = |part| Options { seed: 16, only: Some(part), ..Options::default() };
+    for part in parts() {
+        let tally = run(Reference, only(part));
+        assert_eq!(tally.differences(), 0, "{:#?}", tally.described());
+        assert!(tally.jobs.of_hosts > 0);
+    }
+    let mistakes = [
+        Mistake::HearRefusesRepeats,
+        Mistake::SimulationSeesAllRows,
+        Mistake::FalseMessageBelieved,
+        Mistake::MessageInTheWrongRow,
+        Mistake::AllEndedAtTheRootsStart,
+        Mistake::PretendsAfterTheFirst,
+    ];
+    for mistake in mistakes {
+        let found =
+            |part| run_against(Broken::new(mistake), Broken::new(mistake), only(part)).differences() > 0;
+        assert!(parts().any(found), "{mistake:?} on both sides is not found");
     }
 }
 

@@ -31,7 +31,7 @@ fn a_broken_copy_fails() {
 fn a_number_never_met_fails() {
     let output = differential(&["--self", "--steps", "10", "--texts", "0"]);
     assert!(last_line(&output).ends_with(" 0 differences"));
-    assert!(String::from_utf8_lossy(&output.stdout).contains("never met: rehearse 15"));
+    assert!(String::from_utf8_lossy(&output.stdout).contains("never met: program 15"));
     assert_eq!(output.status.code(), Some(1));
 }
 

@@ -1,16 +1,18 @@
 //! One function for each function of the C archive, with the same packed
 //! result: bits 0 to 7 the number (0 passed), bits 8 to 15 the site that let
 //! an event pass or refused it by its row, bits 16 to 31 a value where the
-//! function has one; for an event that passed this is its rule.
+//! function has one; for an event that passed this is its rule. Two answer
+//! otherwise: `guard`, which has its rule in bits 8 to 15, and `version`.
 //!
 //! They are never inlined, so that a caller pays for a call here as well.
 
+use crate::guard::Written;
 use crate::refusal::Refusal;
 use crate::simulate::Outcome;
 use crate::site::Verdict;
 use crate::table::Table;
 use crate::{central as central_rule, guard as guards, pass as passes, plan, record as records};
-use crate::{rewrite as rewriting, rule as rules, simulate as simulation, site as sites};
+use crate::{rewrite as rewriting, rule as rules, simulate as simulation, site as sites, text as texts};
 
 /// The number in a packed result.
 pub fn number(result: u32) -> u8 {
@@ -45,11 +47,12 @@ pub fn check_depths(plan: &[u8], depths: &mut [u8]) -> u32 {
     done(plan::Plan::check_depths(plan, depths))
 }
 
-/// Writes a guard; the value is its length. 1 to 6, 8, 9, 7.
+/// Writes a guard; the value is its length, and its rule stands where others
+/// have a site. 1 to 6, 8, 9, 7.
 #[inline(never)]
 pub fn guard(plan: &[u8], code: u32, node: u32, buffer: &mut [u8]) -> u32 {
     match guards::write(plan, code, node, buffer) {
-        Ok(length) => (length as u32) << 16,
+        Ok(Written { length, rule }) => u32::from(rule) << 8 | (length as u32) << 16,
         Err(cause) => refused(cause),
     }
 }
@@ -79,21 +82,17 @@ pub fn pass(plan: &[u8], answers: &[u8], marks: &mut [u8]) -> u32 {
     done(passes::pass(plan, answers, marks))
 }
 
-/// A step of a rehearsal: an event if the site is 255, else a message to
+/// A step of a simulation: an event if the site is 255, else a message to
 /// that site. The value is the rule of an event that passes. 1 to 12.
 #[inline(never)]
 pub fn simulate(plan: &[u8], code: u32, node: u32, site: u32, state: &mut [u8]) -> u32 {
-    match simulation::simulate(plan, code, node, site, state) {
-        Outcome::Event(happened) => verdict(happened),
-        Outcome::Heard => 0,
-        Outcome::Refused(cause) => refused(cause),
-    }
+    outcome(simulation::simulate(plan, code, node, site, state))
 }
 
-/// The end record of a rehearsal's state, by the usual table. 1 to 7.
+/// The end record of a simulation's state, by the common table. 1 to 7.
 #[inline(never)]
 pub fn record(plan: &[u8], state: &[u8], marks: &mut [u8], classes: &mut [u8]) -> u32 {
-    done(records::record(&Table::USUAL, plan, state, marks, classes))
+    done(records::record(&Table::COMMON, plan, state, marks, classes))
 }
 
 /// The end record by a table that is handed in. 21, then 1 to 7.
@@ -101,6 +100,35 @@ pub fn record(plan: &[u8], state: &[u8], marks: &mut [u8], classes: &mut [u8]) -
 pub fn record_by(plan: &[u8], table: &[u8], state: &[u8], marks: &mut [u8], classes: &mut [u8]) -> u32 {
     let table = Table::load(table);
     done(table.and_then(|table| records::record(&table, plan, state, marks, classes)))
+}
+
+/// Checks a table of classes: 21.
+#[inline(never)]
+pub fn check_table(table: &[u8]) -> u32 {
+    done(Table::load(table).map(|_| ()))
+}
+
+/// The record of the single pass, by a table. 21, then 1 to 7, 13, 14.
+#[inline(never)]
+pub fn pass_record(plan: &[u8], table: &[u8], answers: &[u8], marks: &mut [u8], classes: &mut [u8]) -> u32 {
+    let table = Table::load(table);
+    done(table.and_then(|table| records::pass_record(&table, plan, answers, marks, classes)))
+}
+
+/// A simulation from text; the value is the length of what the program
+/// `rehearse` prints for it. 15, 21, 1 to 7.
+#[inline(never)]
+pub fn rehearse(text: &[u8], out: &mut [u8]) -> u32 {
+    match texts::rehearse_into(text, out) {
+        Ok(length) => (length as u32) << 16,
+        Err(cause) => refused(cause),
+    }
+}
+
+/// The version of these calls, a byte each for its three numbers: 1.0.0.
+#[inline(never)]
+pub fn version() -> u32 {
+    1 << 16
 }
 
 /// The central rule; the value is 1 if the event was allowed. 1 to 9.
@@ -118,6 +146,14 @@ fn done(result: Result<(), Refusal>) -> u32 {
 
 fn refused(cause: Refusal) -> u32 {
     u32::from(cause.number())
+}
+
+pub(crate) fn outcome(outcome: Outcome) -> u32 {
+    match outcome {
+        Outcome::Event(happened) => verdict(happened),
+        Outcome::Heard => 0,
+        Outcome::Refused(cause) => refused(cause),
+    }
 }
 
 fn verdict(verdict: Verdict) -> u32 {

@@ -6,6 +6,7 @@
 use crate::event::{Code, Event};
 use crate::plan::{Kind, Plan};
 use crate::refusal::Refusal;
+use crate::rule;
 
 /// A guard, described.
 #[derive(Clone, Copy, Debug, PartialEq, Eq)]
@@ -99,9 +100,18 @@ impl Guard {
     }
 }
 
+/// What the guard writer wrote, and the rule that goes with it.
+#[derive(Clone, Copy, Debug, PartialEq, Eq)]
+pub struct Written {
+    /// How many bytes.
+    pub length: usize,
+    /// The rule of the event whose guard it is.
+    pub rule: u8,
+}
+
 /// The guard writer: 1 to 6, then 8 and 9, and only then 7 for a buffer that
-/// is too short. Answers how many bytes it wrote.
-pub fn write(plan: &[u8], code: u32, node: u32, buffer: &mut [u8]) -> Result<usize, Refusal> {
+/// is too short.
+pub fn write(plan: &[u8], code: u32, node: u32, buffer: &mut [u8]) -> Result<Written, Refusal> {
     let plan = Plan::check(plan)?;
     let event = Event::read(&plan, code, node)?;
     let guard = Guard::of(&plan, event);
@@ -110,7 +120,7 @@ pub fn write(plan: &[u8], code: u32, node: u32, buffer: &mut [u8]) -> Result<usi
         return Err(Refusal::Length);
     }
     guard.write(&plan, buffer);
-    Ok(length)
+    Ok(Written { length, rule: rule::of(&plan, event) })
 }
 
 /// A node may start when its turn has come.

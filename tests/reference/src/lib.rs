@@ -3,12 +3,12 @@
 //!
 //! It was written from those papers alone, so that a mistake made elsewhere
 //! is not made here a second time. The C archive is compared with it, and it
-//! is the yardstick for speed: nothing here allocates except the rehearsal
+//! is the yardstick for speed: nothing here allocates except the simulation
 //! from text.
 //!
 //! * [`exported`] has one function for each function of the C archive, with
 //!   the same packed results.
-//! * [`rehearse`] is the program that runs a rehearsal from text.
+//! * [`rehearse`] is the program that runs a simulation from text.
 //! * The modules below hold the rules themselves; a later rule goes into the
 //!   module of the thing it is about, and its number into [`Refusal`].
 //!

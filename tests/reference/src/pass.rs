@@ -12,6 +12,12 @@ pub fn pass(plan: &[u8], answers: &[u8], marks: &mut [u8]) -> Result<(), Refusal
     if answers.len() != plan.size() || marks.len() != plan.size() {
         return Err(Refusal::Length);
     }
+    settle(plan, answers, marks)
+}
+
+/// The pass of a checked plan, with as many answers and marks as it has
+/// nodes: 13, 14.
+pub(crate) fn settle(plan: Plan, answers: &[u8], marks: &mut [u8]) -> Result<(), Refusal> {
     let mut run = Run::new(plan, answers);
     run.settle(0)?;
     marks.copy_from_slice(&run.marks[..marks.len()]);

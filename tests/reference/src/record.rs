@@ -1,6 +1,7 @@
-//! The end record: every node's mark and filing class.
+//! Records: every node's mark and retention class, of a state or of the pass.
 
 use crate::mark::{self, COMMITTED, FAILED, OFFERED, TURNED_DOWN};
+use crate::pass;
 use crate::plan::{Kind, MAX_NODES, Plan};
 use crate::refusal::Refusal;
 use crate::table::{self, Table};
@@ -26,8 +27,8 @@ impl Above {
         }
     }
 
-    /// The mark that a committed task is filed by.
-    fn filed_as(self) -> u8 {
+    /// The mark that a committed task counts as.
+    fn counts_as(self) -> u8 {
         match self {
             Above::Through => COMMITTED,
             Above::Open => OFFERED,
@@ -37,15 +38,15 @@ impl Above {
 }
 
 /// Writes every node's class by the table, from the marks of all; as many
-/// marks and classes as the plan has nodes. Blocks are not filed.
-pub fn file(table: &Table, plan: &Plan, marks: &[u8], classes: &mut [u8]) {
+/// marks and classes as the plan has nodes. Blocks have none.
+pub fn classify(table: &Table, plan: &Plan, marks: &[u8], classes: &mut [u8]) {
     let mut above = [Above::Through; MAX_NODES];
     for node in 0..plan.size() {
         if let Some(parent) = plan.parent(node) {
             above[node] = above[parent].max(Above::of_block(marks[parent]));
         }
         classes[node] = match (plan.kind(node), marks[node]) {
-            (Kind::Task, COMMITTED) => table.class(above[node].filed_as()),
+            (Kind::Task, COMMITTED) => table.class(above[node].counts_as()),
             (Kind::Task, mark) => table.class(mark),
             _ => table::NONE,
         };
@@ -69,6 +70,26 @@ pub fn record(
     for (node, mark) in marks.iter_mut().enumerate() {
         *mark = mark::of_heard(state[node * size + node]);
     }
-    file(table, &plan, marks, classes);
+    classify(table, &plan, marks, classes);
+    Ok(())
+}
+
+/// Writes every node's mark as the single pass settles it, and its class by
+/// the table. 1 to 7, then 13 and 14, with both lent lists left; a table is
+/// loaded before, so its 21 comes first.
+pub fn pass_record(
+    table: &Table,
+    plan: &[u8],
+    answers: &[u8],
+    marks: &mut [u8],
+    classes: &mut [u8],
+) -> Result<(), Refusal> {
+    let plan = Plan::check(plan)?;
+    let size = plan.size();
+    if answers.len() != size || marks.len() != size || classes.len() != size {
+        return Err(Refusal::Length);
+    }
+    pass::settle(plan, answers, marks)?;
+    classify(table, &plan, marks, classes);
     Ok(())
 }

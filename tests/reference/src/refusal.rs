@@ -35,7 +35,7 @@ pub enum Refusal {
     Choice = 14,
     /// The text is malformed or too long.
     Text = 15,
-    /// A filing table that isn't one.
+    /// A table of classes that isn't one.
     Table = 21,
 }
 

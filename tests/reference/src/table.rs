@@ -1,9 +1,9 @@
-//! The filing table: which class each mark has.
+//! The table of classes: which class each mark has.
 
 use crate::mark::IDLE;
 use crate::refusal::Refusal;
 
-/// Nothing is filed.
+/// Nothing is kept.
 pub const NONE: u8 = 0;
 /// Aired: kept a year.
 pub const AIRED: u8 = 1;
@@ -21,7 +21,7 @@ pub struct Table([u8; MARKS]);
 
 impl Table {
     /// The table that is used where none is handed in.
-    pub const USUAL: Table = Table([NONE, LOG, LOG, AIRED, DRAFT, DRAFT]);
+    pub const COMMON: Table = Table([NONE, LOG, LOG, AIRED, DRAFT, DRAFT]);
 
     /// A table from its bytes, mark and class of each mark in turn; 21 for
     /// any other bytes.

@@ -1,48 +1,65 @@
-//! A rehearsal from text: what the program `rehearse` prints for what it
+//! A simulation from text: what the program `rehearse` prints for what it
 //! reads. This is the one place that allocates.
 
 use crate::exported::{self, number};
 use crate::plan::{MAX_NODES, Plan};
 use crate::record;
 use crate::refusal::Refusal;
+use crate::simulate;
 use crate::table::Table;
 
 /// The longest text that is read.
 pub const MAX_TEXT: usize = 32_768;
+/// How many bytes must be lent for the lines; those of any text fit.
+pub const OUT_LENGTH: usize = 16_384;
 
 /// Stands between plan and steps.
 const DIVIDER: &[u8] = b"--";
 /// Stands after a table, where there is one.
 const TABLE_END: &[u8] = b"==";
 
-/// Runs a rehearsal and answers the program's output.
+/// Runs a simulation and answers the program's output.
 pub fn rehearse(text: &[u8]) -> Vec<u8> {
-    let mut output = Vec::new();
-    if let Err(cause) = run(text, &mut output) {
-        output.clear();
+    run(text, OUT_LENGTH).unwrap_or_else(|cause| {
+        let mut output = Vec::new();
         put_line(&mut output, &[cause.number()]);
-    }
-    output
+        output
+    })
+}
+
+/// Runs a simulation and writes the program's output to the front of lent
+/// bytes, of which the rest stays; answers its length. 15, 21, 1 to 6, then 7
+/// for too few bytes, however few of them would do.
+pub fn rehearse_into(text: &[u8], out: &mut [u8]) -> Result<usize, Refusal> {
+    let output = run(text, out.len())?;
+    out[..output.len()].copy_from_slice(&output);
+    Ok(output.len())
 }
 
 /// A text taken apart.
 struct Script {
-    /// The bytes of the filing table, if the text has one.
+    /// The bytes of the table of classes, if the text has one.
     table: Option<Vec<u8>>,
     plan: Vec<u8>,
     steps: Vec<[u8; 3]>,
 }
 
-fn run(text: &[u8], output: &mut Vec<u8>) -> Result<(), Refusal> {
+/// The lines of a text that isn't refused, if there is room enough.
+fn run(text: &[u8], room: usize) -> Result<Vec<u8>, Refusal> {
     let script = read(text).ok_or(Refusal::Text)?;
-    let table = script.table.as_deref().map_or(Ok(Table::USUAL), Table::load)?;
-    let size = Plan::check(&script.plan)?.size();
-    let mut state = vec![0; size * size];
-    for [code, node, site] in script.steps.iter().map(|step| step.map(u32::from)) {
-        let result = exported::simulate(&script.plan, code, node, site, &mut state);
-        put_line(output, &[number(result)]);
+    let table = script.table.as_deref().map_or(Ok(Table::COMMON), Table::load)?;
+    let plan = Plan::check(&script.plan)?;
+    if room < OUT_LENGTH {
+        return Err(Refusal::Length);
     }
-    put_record(&table, &script.plan, &state, output)
+    let mut output = Vec::new();
+    let mut state = vec![0; plan.size() * plan.size()];
+    for [code, node, site] in script.steps.iter().map(|step| step.map(u32::from)) {
+        let result = exported::outcome(simulate::step(&plan, code, node, site, &mut state));
+        put_line(&mut output, &[number(result)]);
+    }
+    put_record(&table, &script.plan, &state, &mut output)?;
+    Ok(output)
 }
 
 fn put_record(table: &Table, plan: &[u8], state: &[u8], output: &mut Vec<u8>) -> Result<(), Refusal> {

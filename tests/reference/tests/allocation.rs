@@ -53,7 +53,9 @@ fn exported_functions_do_not_allocate() {
     }
     sum += exported::pass(&plan, &answers, &mut marks);
     sum += exported::record(&plan, &state, &mut marks, &mut notes);
-    sum += exported::record_by(&plan, &USUAL_TABLE, &state, &mut marks, &mut notes);
+    sum += exported::record_by(&plan, &COMMON_TABLE, &state, &mut marks, &mut notes);
+    sum += exported::pass_record(&plan, &COMMON_TABLE, &answers, &mut marks, &mut notes);
+    sum += exported::check_table(&COMMON_TABLE) + exported::version();
     assert_eq!(COUNT.get(), before);
     assert_ne!(sum, 0);
 }

@@ -103,7 +103,7 @@ fn kind_08_is_a_kind_and_09_is_none() {
 /// start and end, and the record is the pass's.
 #[test]
 fn children_of_a_failed_and_go_on() {
-    let mut job = Rehearsal::new("03ff 0100 0100 0200 0103");
+    let mut job = Simulation::new("03ff 0100 0100 0200 0103");
     for (code, node) in [(START, 0), (START, 1), (START, 2), (ABORT, 1), (ABORT, 0)] {
         job.all_know(code, node);
     }
@@ -118,7 +118,7 @@ fn children_of_a_failed_and_go_on() {
 
 #[test]
 fn a_waiting_and_waits() {
-    let mut job = Rehearsal::new("08ff 0100 0100");
+    let mut job = Simulation::new("08ff 0100 0100");
     for (code, node) in [(START, 0), (START, 1), (START, 2), (ABORT, 1)] {
         job.all_know(code, node);
     }

@@ -3,7 +3,7 @@
 mod common;
 
 use common::*;
-use reference::exported::{check, guard, number, simulate};
+use reference::exported::{check, guard, number, simulate, version};
 
 fn written(code: u32, node: u32) -> Vec<u8> {
     guard_bytes(&hex(P), code, node)
@@ -65,6 +65,11 @@ fn p9_with_pick_0_is_14() {
 }
 
 #[test]
+fn the_version_is_1_0_0() {
+    assert_eq!(version(), 65_536);
+}
+
+#[test]
 fn nodes_160_pass_161_do_not() {
     assert_eq!(plan_of(160).len(), 320);
     assert_eq!(check(&plan_of(160)), 0);
@@ -87,7 +92,7 @@ fn depth_32_passes_33_does_not() {
 fn an_only_child_of_an_xor_is_never_turned_down() {
     assert_eq!(guard_bytes(&hex("05ff 0100"), TURNED_DOWN, 1), hex("0201020100"));
     assert_eq!(guard_bytes(&hex("02ff 0100 0500 0102"), TURNED_DOWN, 3), hex("0201020300"));
-    let mut job = Rehearsal::new("05ff 0100");
+    let mut job = Simulation::new("05ff 0100");
     for (code, node) in [(START, 0), (START, 1), (OFFER, 1), (PICK, 1), (COMMIT, 1), (COMMIT, 0)] {
         assert_eq!(number(job.event(TURNED_DOWN, 1)), 11);
         job.all_know(code, node);
@@ -157,7 +162,7 @@ fn children_may_be_scattered() {
 /// A job of plan P from beginning to end, and the pass for it.
 #[test]
 fn a_job_of_plan_p() {
-    let mut job = Rehearsal::new(P);
+    let mut job = Simulation::new(P);
     let events = [
         (START, 0),
         (START, 1),

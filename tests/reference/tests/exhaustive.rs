@@ -1,4 +1,4 @@
-//! Every rehearsal of every small plan: all events and all messages that a
+//! Every simulation of every small plan: all events and all messages that a
 //! guard can notice, in every order. What passes must be a run of the central
 //! rule, what the central rule allows must pass once everybody knows, and
 //! when the job is over the pass must come to the same record.
@@ -6,7 +6,7 @@
 mod common;
 
 use common::*;
-use reference::exported::{central, number, record, simulate, value};
+use reference::exported::{central, number, record, record_by, simulate, value};
 use std::collections::HashSet;
 
 /// A plan with its events, and the messages that some guard can notice.
@@ -111,6 +111,21 @@ impl World {
                 (0..self.nodes).map(|node| self.answer(node, &marks, &notes).unwrap_or(free)).collect();
             let what = format!("plan {:02x?} answers {answers:02x?}", self.plan);
             assert_eq!(pass_marks(&self.plan, &answers), Ok(marks.clone()), "{what}");
+            self.has_the_record(state, &answers);
+        }
+    }
+
+    /// By any table the pass's record is the state's.
+    fn has_the_record(&self, state: &[u8], answers: &[u8]) {
+        for table in [COMMON_TABLE, [0, 0, 1, 0, 2, 1, 3, 2, 4, 0, 5, 3]] {
+            let (mut marks, mut classes) = (vec![0; self.nodes], vec![0; self.nodes]);
+            assert_eq!(record_by(&self.plan, &table, state, &mut marks, &mut classes), 0);
+            assert_eq!(
+                record_of_pass(&self.plan, &table, answers),
+                Ok((marks, classes)),
+                "{:02x?}",
+                self.plan
+            );
         }
     }
 

@@ -27,7 +27,7 @@ fn r1_order_of_lengths_and_numbers() {
     assert_eq!(guard(&plan, YES, 1, &mut []), 9);
     assert_eq!(step(&plan, 9, 0, &mut []), 7);
     assert_eq!(hear(&plan, YES, 1, &mut []), 7);
-    let mut job = Rehearsal::new("05ff 0100");
+    let mut job = Simulation::new("05ff 0100");
     assert_eq!(job.message(YES, 1, 2), 8);
     assert_eq!(job.message(YES, 0xff, 1), 8);
     assert_eq!(job.message(YES, 1, 1), 9);
@@ -53,7 +53,7 @@ fn r3_bars_go_by_the_letter() {
 
 #[test]
 fn r4_after_being_turned_down() {
-    let mut job = Rehearsal::new("05ff 0100 0100");
+    let mut job = Simulation::new("05ff 0100 0100");
     for (code, node) in
         [(START, 0), (START, 1), (START, 2), (OFFER, 1), (OFFER, 2), (PICK, 1), (TURNED_DOWN, 2)]
     {
@@ -70,7 +70,7 @@ fn r4_after_being_turned_down() {
 
 #[test]
 fn r5_a_late_offer_is_turned_down_too() {
-    let mut job = Rehearsal::new("05ff 0100 0100");
+    let mut job = Simulation::new("05ff 0100 0100");
     for (code, node) in [(START, 0), (START, 1), (START, 2), (OFFER, 1), (PICK, 1), (COMMIT, 1)] {
         job.all_know(code, node);
     }
@@ -131,8 +131,8 @@ fn r10_numbers_are_not_cut() {
     let mut row = [0];
     assert_eq!(step(&plan, 257, 0, &mut row), 8);
     assert_eq!(step(&plan, 1, 256, &mut row), 8);
-    assert_eq!(Rehearsal::new("01ff").message(1, 0, 256), 8);
-    assert_eq!(Rehearsal::new("01ff").message(1, 0, 0x1ff), 8);
+    assert_eq!(Simulation::new("01ff").message(1, 0, 256), 8);
+    assert_eq!(Simulation::new("01ff").message(1, 0, 0x1ff), 8);
     assert_eq!(step(&plan, 1, 0, &mut row), passed(0, 0x01));
 }
 

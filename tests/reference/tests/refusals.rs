@@ -75,8 +75,10 @@ fn plan_refusals_come_first_everywhere() {
                 assert_eq!(simulate(&plan, code, node, 400, &mut lent), expected);
                 assert_eq!(pass(&plan, &[1], &mut lent), expected);
                 assert_eq!(record(&plan, &[1], &mut lent, &mut other), expected);
-                assert_eq!(record_by(&plan, &USUAL_TABLE, &[1], &mut lent, &mut other), expected);
+                assert_eq!(record_by(&plan, &COMMON_TABLE, &[1], &mut lent, &mut other), expected);
                 assert_eq!(record_by(&plan, &[1], &[1], &mut lent, &mut other), 21, "the table first");
+                assert_eq!(pass_record(&plan, &COMMON_TABLE, &[1], &mut lent, &mut other), expected);
+                assert_eq!(pass_record(&plan, &[], &[1], &mut lent, &mut other), 21);
                 assert_eq!(central(&plan, code, node, &mut lent, &mut other), expected);
                 assert!(lent.iter().chain(&other).all(|&byte| byte == LEFT));
             }
@@ -100,7 +102,7 @@ fn guard_tries_8_and_9_before_7() {
     let mut short = [LEFT; 19];
     assert_eq!(guard(&plan, COMMIT, 2, &mut short), 7);
     assert_eq!(short, [LEFT; 19]);
-    assert_eq!(guard(&plan, COMMIT, 2, &mut [LEFT; 20]), 20 << 16);
+    assert_eq!(guard(&plan, COMMIT, 2, &mut [LEFT; 20]), 20 << 16 | 0x53 << 8);
 }
 
 #[test]
@@ -215,7 +217,7 @@ fn step_10_and_11_name_the_site_and_leave_the_row() {
 
 #[test]
 fn a_false_message_is_12() {
-    let mut job = Rehearsal::new(P);
+    let mut job = Simulation::new(P);
     assert_eq!(job.message(START, 0, 1), 12);
     assert_eq!(job.message(START, 0, 0), 12);
     assert_eq!(job.state, [0; 36]);
@@ -250,7 +252,7 @@ fn state_length_is_7() {
         assert!(state.iter().all(|&byte| byte == LEFT));
         let (mut marks, mut classes) = ([LEFT; 6], [LEFT; 6]);
         assert_eq!(record(&plan, &state, &mut marks, &mut classes), 7);
-        assert_eq!(record_by(&plan, &USUAL_TABLE, &state, &mut marks, &mut classes), 7);
+        assert_eq!(record_by(&plan, &COMMON_TABLE, &state, &mut marks, &mut classes), 7);
         assert_eq!((marks, classes), ([LEFT; 6], [LEFT; 6]));
     }
 }
@@ -261,11 +263,17 @@ fn record_central_and_pass_lengths_are_7() {
     for (first, second) in [(0, 6), (5, 6), (7, 6), (6, 0), (6, 5), (6, 7), (12, 12)] {
         let (mut one, mut two) = (vec![LEFT; first], vec![LEFT; second]);
         assert_eq!(record(&plan, &[0; 36], &mut one, &mut two), 7);
-        assert_eq!(record_by(&plan, &USUAL_TABLE, &[0; 36], &mut one, &mut two), 7);
+        assert_eq!(record_by(&plan, &COMMON_TABLE, &[0; 36], &mut one, &mut two), 7);
         assert_eq!(record_by(&plan, &[], &[0; 36], &mut one, &mut two), 21);
         assert_eq!(central(&plan, START, 0, &mut one, &mut two), 7);
         assert_eq!(central(&plan, 99, 99, &mut one, &mut two), 7, "7 before 8");
         assert_eq!(pass(&plan, &one, &mut two), 7);
+        assert_eq!(pass_record(&plan, &COMMON_TABLE, &[1; 6], &mut one, &mut two), 7);
+        assert_eq!(pass_record(&plan, &[], &[1; 6], &mut one, &mut two), 21);
+        let answers = vec![1; first];
+        let mut six = [LEFT; 6];
+        let result = pass_record(&plan, &COMMON_TABLE, &answers, &mut six, &mut two);
+        assert_eq!((result, six), (7, [LEFT; 6]), "7 before 13 and 14");
         assert!(one.iter().chain(&two).all(|&byte| byte == LEFT));
     }
 }
@@ -284,6 +292,23 @@ fn pass_faults() {
     assert_eq!(refusal("05ff 0100 0100", &[1, 2, 2]), Err(14), "none offers, yet one is picked");
     assert_eq!(refusal("05ff 0100 0100", &[0, 2, 2]), Ok(vec![4, 4, 4]));
     assert_eq!(refusal("05ff 0100 0100", &[2, 1, 1]), Ok(vec![3, 5, 3]));
+}
+
+/// The record of the pass has the pass's faults, after all lengths.
+#[test]
+fn pass_record_faults() {
+    let by = |plan: &str, table: &[u8], answers: &[u8]| record_of_pass(&hex(plan), table, answers);
+    for answers in [[1, 1, 0], [9, 1, 1], [1, 2, 1], [0, 1, 2], [0, 2, 2]] {
+        let plan = "05ff 0100 0100";
+        let marks = by(plan, &COMMON_TABLE, &answers).map(|record| record.0);
+        assert_eq!(marks, pass_marks(&hex(plan), &answers), "{answers:?}");
+        assert_eq!(by(plan, &COMMON_TABLE[..11], &answers), Err(21));
+    }
+    assert_eq!(by("05ff 0100 0100", &COMMON_TABLE, &[1, 1, 0]), Err(13));
+    assert_eq!(by("05ff 0100 0100", &COMMON_TABLE, &[9, 1, 1]), Err(14));
+    assert_eq!(by("01ff", &COMMON_TABLE, &[]), Err(7));
+    assert_eq!(by("01ff", &COMMON_TABLE, &[0, 0]), Err(7));
+    assert_eq!(by("01ff", &[], &[]), Err(21), "no table is none, not the common one");
 }
 
 /// Answers are read only at nodes that are reached.

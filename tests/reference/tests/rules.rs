@@ -3,7 +3,7 @@
 mod common;
 
 use common::*;
-use reference::exported::{number, rule, simulate, step, value};
+use reference::exported::{guard, number, rule, simulate, site, step, value};
 use std::collections::BTreeSet;
 
 /// All events that apply, with their rules.
@@ -92,10 +92,28 @@ fn only_what_passes_hands_its_rule_on() {
     }
 }
 
+/// The guard writer hands on the rule of every event that applies, beside the
+/// guard's length, and nothing with a refusal.
+#[test]
+fn the_guard_writer_hands_the_rule_on() {
+    for plan in (1..=4).flat_map(plans) {
+        for (code, node, rule) in rules_of(&plan) {
+            let written = guard(&plan, code, node, &mut [0; 300]);
+            assert_eq!((number(written), site(written)), (0, rule), "{plan:02x?} code {code} node {node}");
+            let length = value(written) as usize;
+            assert_eq!(guard(&plan, code, node, &mut vec![0; length]), written);
+            assert_eq!(guard(&plan, code, node, &mut vec![0; length - 1]), 7);
+        }
+    }
+    assert_eq!(guard(&hex(P), YES, 0, &mut [0; 300]), 9);
+    assert_eq!(guard(&hex(P), COMMIT, 3, &mut [0; 300]), 4 << 16 | 0xf3 << 8);
+    assert_eq!(guard(&hex(P), START, 0, &mut [0; 300]), 1 << 16 | 0x01 << 8);
+}
+
 /// Along a job: each event passes by its rule.
 #[test]
 fn a_job_with_its_rules() {
-    let mut job = Rehearsal::new("05ff 0300 0100 0101 0101");
+    let mut job = Simulation::new("05ff 0300 0100 0101 0101");
     let events = [
         (START, 0, 0x01),
         (START, 1, 0x51),

@@ -1,9 +1,9 @@
-//! The house's own filing table: which are accepted, and what they do.
+//! The house's own table of classes: which are accepted, and what they do.
 
 mod common;
 
 use common::*;
-use reference::exported::{record, record_by};
+use reference::exported::{check_table, record, record_by};
 
 /// What becomes of a table in a call that is right otherwise.
 fn loaded(table: &[u8]) -> u32 {
@@ -11,6 +11,7 @@ fn loaded(table: &[u8]) -> u32 {
     let result = record_by(&hex("01ff"), table, &[0], &mut marks, &mut classes);
     let left = if result == 0 { ([0], [0]) } else { ([0xa5], [0xa5]) };
     assert_eq!((marks, classes), left);
+    assert_eq!(check_table(table), result, "the check alone");
     result
 }
 
@@ -36,10 +37,13 @@ fn any_classes_of_the_marks_in_order() {
 fn one_byte_changed() {
     for place in 0..12 {
         for byte in 0..=255 {
-            let mut table = USUAL_TABLE;
+            let mut table = COMMON_TABLE;
             table[place] = byte;
-            let right =
-                if place % 2 == 1 { place > 1 && byte <= 3 || byte == 0 } else { byte == USUAL_TABLE[place] };
+            let right = if place % 2 == 1 {
+                place > 1 && byte <= 3 || byte == 0
+            } else {
+                byte == COMMON_TABLE[place]
+            };
             assert_eq!(loaded(&table), if right { 0 } else { 21 }, "place {place} byte {byte}");
         }
     }
@@ -48,10 +52,10 @@ fn one_byte_changed() {
 #[test]
 fn other_lengths_and_orders() {
     for length in (0..=24).filter(|&length| length != 12) {
-        let long = [USUAL_TABLE, USUAL_TABLE].concat();
+        let long = [COMMON_TABLE, COMMON_TABLE].concat();
         assert_eq!(loaded(&long[..length]), 21, "{length} bytes");
     }
-    let frames: Vec<[u8; 2]> = USUAL_TABLE.chunks(2).map(|frame| [frame[0], frame[1]]).collect();
+    let frames: Vec<[u8; 2]> = COMMON_TABLE.chunks(2).map(|frame| [frame[0], frame[1]]).collect();
     for (one, two) in (0..6).flat_map(|one| (0..one).map(move |two| (one, two))) {
         let mut frames = frames.clone();
         frames.swap(one, two);
@@ -62,7 +66,7 @@ fn other_lengths_and_orders() {
 }
 
 #[test]
-fn without_a_table_the_usual_one() {
+fn without_a_table_the_common_one() {
     let plan = hex(P);
     let mut state = [0u8; 36];
     for round in 0..=255u8 {
@@ -71,15 +75,15 @@ fn without_a_table_the_usual_one() {
         }
         let (mut one, mut two) = (([0; 6], [0; 6]), ([1; 6], [1; 6]));
         assert_eq!(record(&plan, &state, &mut one.0, &mut one.1), 0);
-        assert_eq!(record_by(&plan, &USUAL_TABLE, &state, &mut two.0, &mut two.1), 0);
+        assert_eq!(record_by(&plan, &COMMON_TABLE, &state, &mut two.0, &mut two.1), 0);
         assert_eq!(one, two);
     }
 }
 
-/// A job in which every mark occurs, filed by a table of its own.
+/// A job in which every mark occurs, classed by a table of its own.
 #[test]
 fn each_mark_has_its_class_and_blocks_have_none() {
-    let mut job = Rehearsal::new("03ff 0500 0101 0101 0101 0101 0101");
+    let mut job = Simulation::new("03ff 0500 0101 0101 0101 0101 0101");
     let events = [
         (START, 0),
         (START, 1),

@@ -1,9 +1,9 @@
-//! Rehearsals from text.
+//! Simulations from text.
 
 mod common;
 
 use common::plan_of;
-use reference::rehearse;
+use reference::{exported, rehearse};
 
 /// Lines from words.
 fn lines(words: &str) -> String {
@@ -13,6 +13,51 @@ fn lines(words: &str) -> String {
 fn prints(input: impl AsRef<[u8]>, words: &str) {
     let output = String::from_utf8(rehearse(input.as_ref())).expect("hexadecimal");
     assert_eq!(output, lines(words));
+    call_gives(input.as_ref(), &output);
+}
+
+/// The call gives the program's lines where there are any, else the number
+/// that the program prints; it leaves every other byte.
+fn call_gives(input: &[u8], output: &str) {
+    let mut out = vec![0xa5; 16_390];
+    let result = exported::rehearse(input, &mut out);
+    let refused = if output.len() == 3 { u32::from_str_radix(output.trim(), 16).ok() } else { None };
+    if let Some(number) = refused {
+        assert_eq!(result, number);
+        assert_eq!(exported::rehearse(input, &mut out[..20]), number, "found before the length");
+        assert!(out.iter().all(|&byte| byte == 0xa5));
+    } else {
+        assert_eq!(result, (output.len() as u32) << 16);
+        assert_eq!(&out[..output.len()], output.as_bytes());
+        assert!(out[output.len()..].iter().all(|&byte| byte == 0xa5));
+    }
+}
+
+/// However short the lines would be, all of the bytes must be lent.
+#[test]
+fn a_short_buffer_is_7() {
+    for length in [0, 1, 9, 100, 16_383] {
+        let mut out = vec![0xa5; length];
+        assert_eq!(exported::rehearse(b"01ff\n--\n", &mut out), 7);
+        assert_eq!(exported::rehearse(b"==\n01ff\n--\n", &mut out), 21);
+        assert_eq!(exported::rehearse(b"09ff\n--\n", &mut out), 2);
+        assert_eq!(exported::rehearse(b"09ff\n--", &mut out), 15);
+        assert!(out.iter().all(|&byte| byte == 0xa5));
+    }
+    let mut out = vec![0xa5; 16_384];
+    assert_eq!(exported::rehearse(b"01ff\n--\n", &mut out), 9 << 16);
+    assert_eq!(&out[..10], b"00010000\n\xa5");
+}
+
+/// No text has more lines than fit: the most bytes come from 160 nodes and
+/// as many steps as there is space for.
+#[test]
+fn the_longest_output() {
+    let plan = plan_text(&plan_of(160));
+    let steps = (32_768 - plan.len() - 3) / 7;
+    let text = format!("{plan}--\n{}", "0100ff\n".repeat(steps));
+    assert_eq!(rehearse(text.as_bytes()).len(), 3 * 4566 + 9 * 160);
+    call_gives(text.as_bytes(), &String::from_utf8(rehearse(text.as_bytes())).expect("hexadecimal"));
 }
 
 /// A plan as lines of text.
@@ -111,8 +156,8 @@ fn refused_plans_print_their_number_alone() {
     prints(format!("{}--\n", plan_text(&common::chain(33))), "06");
 }
 
-/// The usual table, and one of the house's own.
-const USUAL: &str = "0000 0103 0203 0301 0402 0502 ==";
+/// The common table, and one of the house's own.
+const COMMON: &str = "0000 0103 0203 0301 0402 0502 ==";
 const OWN: &str = "0000 0101 0202 0303 0400 0503 ==";
 
 #[test]
@@ -120,7 +165,7 @@ fn a_table_before_the_plan() {
     let job = "02ff 0100 0100 -- 0100ff 010001 0101ff 0301ff 030102 0102ff 0402ff";
     let numbers = "00 00 00 00 00 00 00";
     prints(lines(job), &format!("{numbers} 00020100 01010303 02010402"));
-    prints(lines(&format!("{USUAL} {job}")), &format!("{numbers} 00020100 01010303 02010402"));
+    prints(lines(&format!("{COMMON} {job}")), &format!("{numbers} 00020100 01010303 02010402"));
     prints(lines(&format!("{OWN} {job}")), &format!("{numbers} 00020100 01010302 02010400"));
     let ends_well = "02ff 0100 -- 0100ff 010001 0101ff 0301ff 030100 0300ff";
     prints(lines(ends_well), "00 00 00 00 00 00 00020300 01010301");
@@ -152,14 +197,14 @@ fn a_refused_table_prints_21_alone() {
 #[test]
 fn where_a_table_may_stand() {
     let malformed = [
-        format!("{USUAL} {USUAL} 01ff --"),
-        format!("{USUAL} == 01ff --"),
+        format!("{COMMON} {COMMON} 01ff --"),
+        format!("{COMMON} == 01ff --"),
         "== == 01ff --".to_string(),
         "01ff -- ==".to_string(),
-        format!("01ff -- {USUAL}"),
-        format!("{USUAL} 01ff -- 0100ff =="),
-        format!("{USUAL} 01ff"),
-        USUAL.to_string(),
+        format!("01ff -- {COMMON}"),
+        format!("{COMMON} 01ff -- 0100ff =="),
+        format!("{COMMON} 01ff"),
+        COMMON.to_string(),
         "==".to_string(),
         "00 0103 0203 0301 0402 0502 == 01ff --".to_string(),
         "000000 0103 0203 0301 0402 0502 == 01ff --".to_string(),
@@ -176,9 +221,9 @@ fn where_a_table_may_stand() {
     prints("==\r\n01ff\n--\n", "0f");
     prints("\n==\n01ff\n--\n", "0f");
     prints("==\n\n01ff\n--\n", "0f");
-    prints(lines(&format!("{USUAL} --")), "01");
-    prints(lines(&format!("{USUAL} 09ff --")), "02");
-    prints(lines(&format!("01ff {USUAL} --")), "15");
+    prints(lines(&format!("{COMMON} --")), "01");
+    prints(lines(&format!("{COMMON} 09ff --")), "02");
+    prints(lines(&format!("01ff {COMMON} --")), "15");
 }
 
 /// One task and 4,680 steps are 32,768 bytes to the last.

@@ -2,7 +2,7 @@
 //!
 //! Each takes slices where the C function takes a pointer and a length, and
 //! answers the packed result as it comes: bits 0 to 7 the number (0 passed),
-//! bits 8 to 15 a site, bits 16 to 31 a value.
+//! bits 8 to 15 a site (of a guard, its rule), bits 16 to 31 a value.
 
 mod raw;
 
@@ -20,11 +20,12 @@ pub fn rewrite(plan: &[u8], out: &mut [u8]) -> u32 {
 
 /// Checks a plan and writes every node's depth.
 pub fn check_depths(plan: &[u8], depths: &mut [u8]) -> u32 {
-    // SAFETY: as for `guard`.
+    // SAFETY: as for `rewrite`.
     unsafe { raw::vulcedar_check_depths(plan.as_ptr(), plan.len(), depths.as_mut_ptr(), depths.len()) }
 }
 
-/// Writes a guard to the front of the buffer; the value is its length.
+/// Writes a guard to the front of the buffer; the value is its length, and
+/// its rule stands in the place of a site.
 pub fn guard(plan: &[u8], code: u32, node: u32, buffer: &mut [u8]) -> u32 {
     // SAFETY: as for `rewrite`.
     unsafe { raw::vulcedar_guard(plan.as_ptr(), plan.len(), code, node, buffer.as_mut_ptr(), buffer.len()) }
@@ -64,7 +65,7 @@ pub fn pass(plan: &[u8], answers: &[u8], marks: &mut [u8]) -> u32 {
     }
 }
 
-/// A step of a rehearsal: an event if the site is 255, else a message to
+/// A step of a simulation: an event if the site is 255, else a message to
 /// that site. The value is the rule of an event that passes.
 pub fn simulate(plan: &[u8], code: u32, node: u32, site: u32, state: &mut [u8]) -> u32 {
     // SAFETY: as for `rewrite`.
@@ -73,7 +74,7 @@ pub fn simulate(plan: &[u8], code: u32, node: u32, site: u32, state: &mut [u8]) 
     }
 }
 
-/// The end record of a rehearsal's state.
+/// The end record of a simulation's state.
 pub fn record(plan: &[u8], state: &[u8], marks: &mut [u8], classes: &mut [u8]) -> u32 {
     // SAFETY: as for `rewrite`.
     unsafe {
@@ -90,7 +91,7 @@ pub fn record(plan: &[u8], state: &[u8], marks: &mut [u8], classes: &mut [u8]) -
     }
 }
 
-/// The end record by a filing table that is handed in.
+/// The end record by a table of classes that is handed in.
 pub fn record_by(plan: &[u8], table: &[u8], state: &[u8], marks: &mut [u8], classes: &mut [u8]) -> u32 {
     // SAFETY: as for `rewrite`.
     unsafe {
@@ -107,6 +108,43 @@ pub fn record_by(plan: &[u8], table: &[u8], state: &[u8], marks: &mut [u8], clas
             classes.len(),
         )
     }
+}
+
+/// Checks a table of classes.
+pub fn check_table(table: &[u8]) -> u32 {
+    // SAFETY: as for `check`.
+    unsafe { raw::vulcedar_check_table(table.as_ptr(), table.len()) }
+}
+
+/// The record of the single pass, by a table of classes.
+pub fn pass_record(plan: &[u8], table: &[u8], answers: &[u8], marks: &mut [u8], classes: &mut [u8]) -> u32 {
+    // SAFETY: as for `rewrite`.
+    unsafe {
+        raw::vulcedar_pass_record(
+            plan.as_ptr(),
+            plan.len(),
+            table.as_ptr(),
+            table.len(),
+            answers.as_ptr(),
+            answers.len(),
+            marks.as_mut_ptr(),
+            marks.len(),
+            classes.as_mut_ptr(),
+            classes.len(),
+        )
+    }
+}
+
+/// A simulation from text, into bytes of which there are at least 16,384; the
+/// value is how many are written.
+pub fn rehearse(text: &[u8], out: &mut [u8]) -> u32 {
+    // SAFETY: as for `rewrite`.
+    unsafe { raw::vulcedar_rehearse(text.as_ptr(), text.len(), out.as_mut_ptr(), out.len()) }
+}
+
+/// The version of the archive: a byte each for its three numbers.
+pub fn version() -> u32 {
+    raw::vulcedar_version()
 }
 
 /// The central rule; the value is 1 if the event was allowed.

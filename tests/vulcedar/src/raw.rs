@@ -84,6 +84,25 @@ unsafe extern "C" {
         classes_length: usize,
     ) -> u32;
 
+    pub fn vulcedar_check_table(table: *const u8, table_length: usize) -> u32;
+
+    pub fn vulcedar_pass_record(
+        plan: *const u8,
+        plan_length: usize,
+        table: *const u8,
+        table_length: usize,
+        answers: *const u8,
+        answers_length: usize,
+        marks: *mut u8,
+        marks_length: usize,
+        classes: *mut u8,
+        classes_length: usize,
+    ) -> u32;
+
+    pub fn vulcedar_rehearse(text: *const u8, text_length: usize, out: *mut u8, out_length: usize) -> u32;
+
+    pub safe fn vulcedar_version() -> u32;
+
     pub fn vulcedar_central(
         plan: *const u8,
         plan_length: usize,

@@ -18,8 +18,8 @@ pub const HAPPENS: u32 = 0xff;
 /// Plan P of the document.
 pub const P: &str = "02ff 0100 0500 0102 0102 0100";
 
-/// The filing table that is used where none is handed in.
-pub const USUAL_TABLE: [u8; 12] = [0, 0, 1, 3, 2, 3, 3, 1, 4, 2, 5, 2];
+/// The table of classes that is used where none is handed in.
+pub const COMMON_TABLE: [u8; 12] = [0, 0, 1, 3, 2, 3, 3, 1, 4, 2, 5, 2];
 
 /// Bytes from hexadecimal; spaces don't count.
 pub fn hex(text: &str) -> Vec<u8> {
@@ -81,7 +81,7 @@ pub fn guard_bytes(plan: &[u8], code: u32, node: u32) -> Vec<u8> {
     let mut buffer = [0xee; 300];
     let result = exported::guard(plan, code, node, &mut buffer);
     assert_eq!(exported::number(result), 0, "code {code} node {node}");
-    assert_eq!(exported::site(result), 0);
+    assert_eq!(u32::from(exported::site(result)), exported::value(exported::rule(plan, code, node)));
     let length = exported::value(result) as usize;
     assert!(buffer[length..].iter().all(|&byte| byte == 0xee), "the rest of the buffer stays");
     buffer[..length].to_vec()
@@ -104,17 +104,34 @@ pub fn pass_marks(plan: &[u8], answers: &[u8]) -> Result<Vec<u8>, u32> {
     }
 }
 
-/// A rehearsal under way.
-pub struct Rehearsal {
+/// The marks and classes of the pass by a table, or its refusal.
+pub fn record_of_pass(plan: &[u8], table: &[u8], answers: &[u8]) -> Result<(Vec<u8>, Vec<u8>), u32> {
+    let nodes = plan.len() / 2;
+    let (mut marks, mut classes) = (vec![0xee; nodes], vec![0xdd; nodes]);
+    match exported::pass_record(plan, table, answers, &mut marks, &mut classes) {
+        0 => Ok((marks, classes)),
+        refused => {
+            assert_eq!(
+                (marks, classes),
+                (vec![0xee; nodes], vec![0xdd; nodes]),
+                "a refused call leaves both"
+            );
+            Err(refused)
+        }
+    }
+}
+
+/// A simulation under way.
+pub struct Simulation {
     pub plan: Vec<u8>,
     pub state: Vec<u8>,
 }
 
-impl Rehearsal {
-    pub fn new(plan: &str) -> Rehearsal {
+impl Simulation {
+    pub fn new(plan: &str) -> Simulation {
         let plan = hex(plan);
         let nodes = plan.len() / 2;
-        Rehearsal { plan, state: vec![0; nodes * nodes] }
+        Simulation { plan, state: vec![0; nodes * nodes] }
     }
 
     pub fn nodes(&self) -> u32 {

@@ -4,9 +4,6 @@ mod common;
 
 use common::*;
 use reference::exported::{record, record_by};
-use reference::plan::Plan;
-use reference::record::file;
-use reference::table::Table;
 
 /// A table that tells marks 2, 3 and 5 apart, and 5 from 4.
 const TELLING: [u8; 12] = [0, 0, 1, 0, 2, 1, 3, 2, 4, 0, 5, 3];
@@ -29,17 +26,15 @@ fn classes(plan: &str, table: &[u8], marks: &[u8]) -> Vec<u8> {
     classes
 }
 
-/// The case that joins P9, by the pass and by a rehearsal.
+/// The case that joins P9, by the pass and by a simulation.
 #[test]
 fn a_draft_inside_a_block_that_was_turned_down() {
     let plan = hex("05ff 0200 0101 0100");
     let marks = pass_marks(&plan, &[2, 0, 1, 1]).expect("the answers fit");
     assert_eq!(marks, [3, 5, 3, 3]);
-    let mut classes = [0xee; 4];
-    let checked = Plan::check(&plan).expect("a plan");
-    file(&Table::USUAL, &checked, &marks, &mut classes);
-    assert_eq!(classes, [0, 0, 2, 1]);
-    let mut job = Rehearsal::new("05ff 0200 0101 0100");
+    let record = Ok((marks, vec![0, 0, 2, 1]));
+    assert_eq!(record_of_pass(&plan, &COMMON_TABLE, &[2, 0, 1, 1]), record);
+    let mut job = Simulation::new("05ff 0200 0101 0100");
     let events = [
         (START, 0),
         (START, 1),
@@ -57,6 +52,19 @@ fn a_draft_inside_a_block_that_was_turned_down() {
         job.all_know(code, node);
     }
     assert_eq!(job.record(), (vec![3, 5, 3, 3], vec![0, 0, 2, 1]));
+}
+
+/// The pass's marks, each with its class by a table that tells all apart.
+#[test]
+fn the_record_of_a_pass() {
+    let by = |plan: &str, answers: &[u8]| record_of_pass(&hex(plan), &TELLING, answers);
+    let both = |marks: &[u8], classes: &[u8]| Ok((marks.to_vec(), classes.to_vec()));
+    assert_eq!(by(P, &[0, 1, 1, 1, 1, 1]), both(&[3, 3, 3, 3, 5, 3], &[0, 2, 0, 2, 3, 2]));
+    assert_eq!(by(P, &[0, 2, 1, 1, 1, 1]), both(&[4, 4, 0, 0, 0, 0], &[0, 0, 0, 0, 0, 0]));
+    assert_eq!(by(P, &[0, 1, 0, 2, 2, 1]), both(&[4, 3, 4, 4, 4, 0], &[0, 3, 0, 0, 0, 0]));
+    assert_eq!(by(P, &[0, 1, 0, 1, 1, 1]), Err(14));
+    assert_eq!(by("01ff", &[1]), both(&[3], &[2]));
+    assert_eq!(by("01ff", &[3]), Err(13));
 }
 
 /// Three blocks above a task, every mark at each of the four.
@@ -100,7 +108,7 @@ fn blocks_above_are_found_through_the_parents() {
 /// lost as soon as a block above is.
 #[test]
 fn the_class_along_a_job() {
-    let mut job = Rehearsal::new("03ff 0200 0101 0100");
+    let mut job = Simulation::new("03ff 0200 0101 0100");
     for (code, node) in [(START, 0), (START, 1), (START, 2), (COMMIT, 2)] {
         job.all_know(code, node);
     }
@@ -108,7 +116,7 @@ fn the_class_along_a_job() {
     job.all_know(COMMIT, 1);
     assert_eq!(job.record().1, [0, 0, 3, 0]);
     job.all_know(START, 3);
-    let mut lost = Rehearsal { plan: job.plan.clone(), state: job.state.clone() };
+    let mut lost = Simulation { plan: job.plan.clone(), state: job.state.clone() };
     job.all_know(COMMIT, 3);
     assert_eq!(job.record().1, [0, 0, 3, 3]);
     job.all_know(COMMIT, 0);
@@ -119,9 +127,9 @@ fn the_class_along_a_job() {
     assert_eq!(lost.record().1, [0, 0, 2, 2]);
 }
 
-/// Without a table, by the usual one.
+/// Without a table, by the common one.
 #[test]
-fn by_the_usual_table() {
+fn by_the_common_table() {
     let plan = hex("02ff 0100 0100 0100");
     let by_root = |root: u8| {
         let (mut marks, mut classes) = ([0; 4], [0; 4]);

@@ -1,0 +1,133 @@
+//! A job of hosts: every site has a row of its own, an event is a step on the
+//! row of its site, and a message is heard only of what has happened. Rows and
+//! results must be those of the simulation, in whatever order all this comes.
+
+use crate::codes::*;
+use crate::driver::{Driver, Step, Temper, Tree};
+use crate::implementation::Implementation;
+use crate::lent::Pair;
+use crate::random::Random;
+use crate::trial::{Trial, hex};
+use std::collections::HashSet;
+
+/// The hosts of a plan, beside a simulation of the same steps.
+struct Hosts<'a> {
+    plan: &'a [u8],
+    tree: Tree,
+    rows: Vec<Pair>,
+    state: Pair,
+    /// What has happened: the events that passed at their sites.
+    happened: HashSet<(u32, u32)>,
+}
+
+/// Runs a job of hosts, usually to the end.
+pub fn run<S: Implementation, R: Implementation>(trial: &mut Trial<S, R>, random: &mut Random, plan: &[u8]) {
+    let mut driver = Driver::new(plan, Temper::any(random));
+    let mut hosts = Hosts::new(plan);
+    let limit = if random.chance(20) { random.below(200) } else { usize::MAX };
+    for _ in 0..limit {
+        let Some(step) = driver.propose(random) else {
+            break;
+        };
+        match hosts.step(trial, step) {
+            Some(passed) => driver.heed(step, passed, random),
+            None => return,
+        }
+    }
+    hosts.compare_all(trial);
+}
+
+impl Hosts<'_> {
+    fn new(plan: &[u8]) -> Hosts<'_> {
+        let nodes = plan.len() / 2;
+        let fresh = |length: usize| {
+            let mut pair = Pair::default();
+            pair.load(&vec![0; length]);
+            pair
+        };
+        let rows = (0..nodes).map(|_| fresh(nodes)).collect();
+        Hosts { plan, tree: Tree::new(plan), rows, state: fresh(nodes * nodes), happened: HashSet::new() }
+    }
+
+    /// A step at the hosts and in the simulation; answers whether it passed,
+    /// and nothing if the two part.
+    fn step<S: Implementation, R: Implementation>(
+        &mut self,
+        trial: &mut Trial<S, R>,
+        step: Step,
+    ) -> Option<bool> {
+        let Step { code, node, site } = step;
+        let row = self.row_of(step);
+        let by_hosts = match row.and_then(|row| self.rows.get_mut(row)) {
+            Some(row) if site == HAPPENS => Some(trial.step_on(self.plan, code, node, row)),
+            Some(row) if self.happened.contains(&(code, node)) => {
+                Some(trial.hear_on(self.plan, code, node, row))
+            }
+            _ => None,
+        };
+        let (simulated, same) = trial.simulate_on(self.plan, code, node, site, &mut self.state);
+        let (result, same_at_host) = by_hosts.unwrap_or((self.unsent(step), true));
+        let passed = number(result) == 0;
+        if passed && site == HAPPENS {
+            self.happened.insert((code, node));
+        }
+        let same = same && same_at_host;
+        (same && self.compare(trial, step, row, result, simulated)).then_some(passed)
+    }
+
+    /// The row that a step is about: the event's site's, or the hearer's. A
+    /// node that there isn't has no site; any row will do to refuse it.
+    fn row_of(&self, step: Step) -> Option<usize> {
+        let node = step.node as usize;
+        match step.site {
+            HAPPENS if node < self.rows.len() => Some(self.tree.site(step.code, node)),
+            HAPPENS => Some(0),
+            hearer => usize::try_from(hearer).ok().filter(|&hearer| hearer < self.rows.len()),
+        }
+    }
+
+    /// What a simulation says of a message that no host would send: to nobody,
+    /// of no event, or of one that hasn't happened.
+    fn unsent(&self, step: Step) -> u32 {
+        let nodes = self.rows.len() as u32;
+        if step.site >= nodes || step.node >= nodes || !(1..=8).contains(&step.code) {
+            8
+        } else if !self.tree.applies(step.code, step.node as usize) {
+            9
+        } else {
+            12
+        }
+    }
+
+    /// The results are the same, and so is the row.
+    fn compare<S: Implementation, R: Implementation>(
+        &self,
+        trial: &mut Trial<S, R>,
+        step: Step,
+        row: Option<usize>,
+        result: u32,
+        simulated: u32,
+    ) -> bool {
+        let same = result == simulated && row.is_none_or(|row| self.has_same_row(row));
+        trial.tally.jobs.of_hosts += 1;
+        trial.tally.compare(same, || {
+            let plan = hex(self.plan);
+            format!("hosts {result:08x}, simulation {simulated:08x}, or another row: plan {plan} {step:?}")
+        })
+    }
+
+    /// All rows one after another are the simulation's state.
+    fn compare_all<S: Implementation, R: Implementation>(&self, trial: &mut Trial<S, R>) {
+        let same = (0..self.rows.len()).all(|row| self.has_same_row(row));
+        trial
+            .tally
+            .compare(same, || format!("hosts have other rows than the simulation: {}", hex(self.plan)));
+    }
+
+    /// Whether a host's row is its site's row of the simulation's state, on
+    /// the subject's side.
+    fn has_same_row(&self, row: usize) -> bool {
+        let nodes = self.rows.len();
+        self.rows[row].subject.is_still(&self.state.subject.bytes()[row * nodes..][..nodes])
+    }
+}
