@@ -1,4 +1,4 @@
--- The bytes of the two shapes of guards are those that the writers write, and how many they are. Assumes nothing.
+-- The bytes of clauses for each child and for any child, by the codes' numbers, and how many they are. Assumes nothing.
 use mathlib.Core.Path.{_≡_, refl, sym, ap}
 use mathlib.Core.List.{List, [], _∷_, _++_, map, append-assoc, append-nil}
 use Prim.Native.Nat.{ℕ, _+_, _*_, _≤_}

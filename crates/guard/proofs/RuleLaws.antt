@@ -20,17 +20,17 @@ use Rattle.guard.proofs.Between.{not-between}
 use Rattle.guard.specs.Rule.{ruleKind, isPicked, ruleByte, ruleBytes, RuleClosed, named, ruleAnswer}
 
 -- by the code's number
-pub kind-named : (p : List ℕ) (v : ℕ) (c : Code)
+pub rule-kind-number : (p : List ℕ) (v : ℕ) (c : Code)
     → ruleKind p c v ≡ cond (eqb (codeNumber c) 1) (cond (eqb v 0) 0 (aboveByte p v)) (cond (leb 7 (codeNumber c)) (aboveByte p v) (kindByte p v))
 unfolding ruleKind codeNumber
-kind-named p v start = refl
-kind-named p v offer = refl
-kind-named p v commit = refl
-kind-named p v abort = refl
-kind-named p v answered-yes = refl
-kind-named p v answered-no = refl
-kind-named p v pick = refl
-kind-named p v down = refl
+rule-kind-number p v start = refl
+rule-kind-number p v offer = refl
+rule-kind-number p v commit = refl
+rule-kind-number p v abort = refl
+rule-kind-number p v answered-yes = refl
+rule-kind-number p v answered-no = refl
+rule-kind-number p v pick = refl
+rule-kind-number p v down = refl
 
 pub in-xor : (p : List ℕ) (v : ℕ) → inXor p v ≡ eqb (aboveByte p v) 5
 unfolding inXor kindNumber
@@ -57,16 +57,16 @@ module _ {p : List ℕ} (a : Accepted p) {v : ℕ} (l : v < size p) where
   pub kind-high : kindByte p v ≤ 8
   kind-high = let h = a .high v l in omega arith
 
-  pub named-high : (c : Code) → ruleKind p c v ≤ 8
+  pub rule-kind-high : (c : Code) → ruleKind p c v ≤ 8
   unfolding ruleKind
-  named-high start = cases (decided (eqb v 0)) (λ e. rw e (omega arith)) (λ e. rw e above-high)
-  named-high offer = kind-high
-  named-high commit = kind-high
-  named-high abort = kind-high
-  named-high answered-yes = kind-high
-  named-high answered-no = kind-high
-  named-high pick = above-high
-  named-high down = above-high
+  rule-kind-high start = cases (decided (eqb v 0)) (λ e. rw e (omega arith)) (λ e. rw e above-high)
+  rule-kind-high offer = kind-high
+  rule-kind-high commit = kind-high
+  rule-kind-high abort = kind-high
+  rule-kind-high answered-yes = kind-high
+  rule-kind-high answered-no = kind-high
+  rule-kind-high pick = above-high
+  rule-kind-high down = above-high
 
 -- the byte, by the code's number
 pub rule-digits : (p : List ℕ) (e : Event) → isPicked p e ≡ false → ruleByte p e ≡ 16 * ruleKind p (e .code) (e .node) + codeNumber (e .code)
@@ -163,26 +163,26 @@ number-high answered-no = omega arith
 number-high pick = omega arith
 number-high down = omega arith
 
--- the arms of kind_named, for the code of a number
+-- the arms of rule_kind, for the code of a number
 module _ (p : List ℕ) (v n : ℕ) (low : 1 ≤ n) (high : n ≤ 8) where
   number : codeNumber (codeOf n) ≡ n
   unfolding isCode
   number = code-number n (and-join _ _ (le-leb 1 n low) (le-leb n 8 high))
 
-  pub named-root : (eqb n 1 && eqb v 0) ≡ true → 0 ≡ ruleKind p (codeOf n) v
-  named-root h = sym (kind-named p v (codeOf n) ∙ rw (number, and-left (eqb n 1) (eqb v 0) h, and-right (eqb n 1) (eqb v 0) h))
+  pub rule-kind-root : (eqb n 1 && eqb v 0) ≡ true → 0 ≡ ruleKind p (codeOf n) v
+  rule-kind-root h = sym (rule-kind-number p v (codeOf n) ∙ rw (number, and-left (eqb n 1) (eqb v 0) h, and-right (eqb n 1) (eqb v 0) h))
 
-  pub named-above : (eqb n 1 && eqb v 0) ≡ false → (eqb n 1 || leb 7 n) ≡ true → aboveByte p v ≡ ruleKind p (codeOf n) v
-  named-above h k = sym (kind-named p v (codeOf n) ∙ cases (decided (eqb n 1))
+  pub rule-kind-above : (eqb n 1 && eqb v 0) ≡ false → (eqb n 1 || leb 7 n) ≡ true → aboveByte p v ≡ ruleKind p (codeOf n) v
+  rule-kind-above h k = sym (rule-kind-number p v (codeOf n) ∙ cases (decided (eqb n 1))
       (λ e. rw (number, e, rw e at h))
       (λ e. rw (number, e, rw e at k)))
 
-  pub named-own : (eqb n 1 || leb 7 n) ≡ false → kindByte p v ≡ ruleKind p (codeOf n) v
-  named-own k = sym (kind-named p v (codeOf n) ∙ cases (decided (eqb n 1))
+  pub rule-kind-own : (eqb n 1 || leb 7 n) ≡ false → kindByte p v ≡ ruleKind p (codeOf n) v
+  rule-kind-own k = sym (rule-kind-number p v (codeOf n) ∙ cases (decided (eqb n 1))
       (λ e. clash (eqb n 1 || leb 7 n) (rw e) k)
       (λ e. rw (number, e, rw e at k)))
 
-  -- and the ways out of rule_byte
+  -- and the ways out of rule_number
   pub rule-f3 : (eqb n 3 && eqb (aboveByte p v) 5) ≡ true → 0xf3 ≡ ruleByte p (eventOf n v)
   unfolding isPicked
   rule-f3 h = sym (rule-picked p (eventOf n v) (rw (number, in-xor p v) h))
@@ -200,7 +200,7 @@ read-last n h = sym (code-down n (not-between 1 7 n h))
 pub rule-small : {p : List ℕ} → Accepted p → {v : ℕ} → v < size p → (n : ℕ) → ruleByte p (eventOf n v) < 256
 rule-small {p} a {v} l n = cases (decided (isPicked p (eventOf n v)))
     (λ e. omega (arith, rule-picked p (eventOf n v) e))
-    (λ e. omega (arith, rule-digits p (eventOf n v) e, named-high a l (codeOf n), number-high (codeOf n)))
+    (λ e. omega (arith, rule-digits p (eventOf n v) e, rule-kind-high a l (codeOf n), number-high (codeOf n)))
 
 -- the answers of `rule`
 module _ (p : List ℕ) (code node : ℕ) {n : ℕ} (e : n ≡ invalid p true true code node) where

@@ -5,7 +5,7 @@ ghost use Rattle.event.specs.Event.{codeOf, eventOf};
 ghost use Rattle.guard.specs.Rule.{ruleKind, ruleByte};
 
 // The kind that the rule names, 0 for none.
-fn kind_named(plan: &[u8], code: u8, v: u8) -> u8
+fn rule_kind(plan: &[u8], code: u8, v: u8) -> u8
     requires { ⌜ (1 ≤ code) × (code ≤ 8) ⌝ }
     ensures { λ r. ⌜ r ≡ ruleKind (now (plan .entry)) (codeOf code) v ⌝ }
 {
@@ -26,5 +26,5 @@ pub fn rule_number(plan: &[u8], code: u8, v: u8) -> usize
     if (k == 3) & (plan::above(plan, v) == 5) {
         return 0xf3;
     }
-    16 * plan::wide(kind_named(plan, k, v)) + plan::wide(k)
+    16 * plan::wide(rule_kind(plan, k, v)) + plan::wide(k)
 }

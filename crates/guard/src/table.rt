@@ -13,6 +13,7 @@ pub struct Shape {
     pub any: u8,
 }
 
+// The guard of the root's start.
 fn no_clause() -> Shape
     ensures { λ r. ⌜ r ≡ shape 0 0 0 0 ⌝ }
 {
@@ -24,6 +25,7 @@ fn no_clause() -> Shape
     }
 }
 
+// [code of node].
 fn one_event(code: u8, node: usize) -> Shape
     ensures { λ r. ⌜ r ≡ shape code node 0 0 ⌝ }
 {
@@ -35,6 +37,7 @@ fn one_event(code: u8, node: usize) -> Shape
     }
 }
 
+// For each child the first `each` of [code, abort, turned down]; then [any of them], unless `any` is 0.
 fn each_child(code: u8, each: u8, any: u8) -> Shape
     ensures { λ r. ⌜ r ≡ shape code 0 each any ⌝ }
 {
@@ -46,6 +49,7 @@ fn each_child(code: u8, each: u8, any: u8) -> Shape
     }
 }
 
+// [any of the children].
 fn any_child(any: u8) -> Shape
     ensures { λ r. ⌜ r ≡ shape 0 0 0 any ⌝ }
 {
@@ -98,6 +102,7 @@ fn finish(k: u8, v: usize, l: usize) -> Shape
     }
 }
 
+// Likewise.
 fn abort(k: u8, v: usize, l: usize) -> Shape
     ensures { λ r. ⌜ r ≡ abortShape (kindOf k) v l ⌝ }
 {

@@ -28,8 +28,8 @@ above-requires c κs = search needs
 returns : tie.Need-returns
 returns c = let j = c .before .before in rule-f3 _ _ _ (known j .0) (known j .1) (rw (c .before .above .ensures) at (c .if2 .taken)) ∙ rule-is j
 
-kind-named-requires : tie.Need-kind-named-requires
-kind-named-requires c κs = known (c .before .before)
+rule-kind-requires : tie.Need-rule-kind-requires
+rule-kind-requires c κs = known (c .before .before)
 
 wide-requires : tie.Need-wide-requires
 wide-requires c κs = search needs
@@ -46,7 +46,7 @@ add-result c = omega (arith, c .wide2 .ensures, known (c .before .before .before
 returns-2 : tie.Need-returns-2
 returns-2 c = let n = c .before .before in
     let j = n .before .before .before in
-    ap (λ k. 16 * c .before .wide .result + k) (c .wide2 .ensures) ∙ ap (λ k. 16 * k + j .if1 .k) (c .before .wide .ensures ∙ n .kind-named .ensures)
+    ap (λ k. 16 * c .before .wide .result + k) (c .wide2 .ensures) ∙ ap (λ k. 16 * k + j .if1 .k) (c .before .wide .ensures ∙ n .rule-kind .ensures)
     ∙ rule-plain _ _ _ (known j .0) (known j .1) (rw (n .before .before .above .ensures) at (n .before .if2 .left)) ∙ rule-is j
 
 pub rule-number-spec : {M : Type 1} → statement M
@@ -55,7 +55,7 @@ rule-number-spec =
     (tie.spec
     above-requires
     returns
-    kind-named-requires
+    rule-kind-requires
     wide-requires
     mul-result
     wide-requires-2
