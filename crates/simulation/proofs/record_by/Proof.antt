@@ -5,7 +5,6 @@ use Rattle.simulation.specs.Run.{recordNumber}
 use Rattle.simulation.proofs.RecordLaws.{record-told, table-refused, record-refused, record-lengths, record-done}
 use Prim.Native.Nat.{ℕ, _*_, _≤_}
 use lib.ListN.{length}
-use native.Mathlib.Omega.{arith}
 use borrow.Author.Needs.{needs}
 use Rattle.simulation.proofs.record_by.Statement.{statement}
 use Rattle.simulation.proofs.record_by.Tie as tie

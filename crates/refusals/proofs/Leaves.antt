@@ -1,0 +1,152 @@
+-- A refused call leaves every lent byte: each call is a choice between what is refused and what is done. Assumes nothing.
+use mathlib.Core.Path.{_≡_, refl, _∙_}
+use mathlib.Core.Bool.{true, cond, not}
+use mathlib.Core.List.{List, _++_}
+use Prim.Native.Nat.{ℕ, _<_}
+use borrow.Author.Tests.{ne-eqb, lt-ltb}
+use lib.Dec.{eqb, leb}
+use lib.ListN.{length, drop}
+use Rattle.lists.specs.Seq.{table}
+use Rattle.plan.specs.Plan.{size, depth}
+use Rattle.event.specs.Event.{eventOf}
+use Rattle.event.specs.Site.{own}
+use Rattle.event.specs.Valid.{invalid}
+use Rattle.checker.specs.Depths.{Checked, checked, depthsNumber, depthsOf}
+use Rattle.rewrite.specs.Rewrite.{rewritten, Rewrote, rewrote, rewriteNumber, rewriteOf}
+use Rattle.guard.specs.Guard.{guard}
+use Rattle.guard.specs.Rule.{ruleByte}
+use Rattle.guard.specs.Bytes.{encode}
+use Rattle.writer.specs.Written.{Filled, filled, written, writtenNumber, fitted, writeOf}
+use Rattle.writer.specs.declared.Written.the-variants.{Done, Refused}
+use Rattle.site.specs.Step.{Told, told, stepInvalid, stepOf, hearOf}
+use Rattle.site.proofs.StepLaws.{step-leaves}
+use Rattle.row.specs.Row.{hear}
+use Rattle.central.specs.Central.{allowed}
+use Rattle.central.specs.Rule.{Ruled, ruled, rulingNumber, stateOf, ruleInvalid, marksAfter, notesAfter, decide, ruleOf}
+use Rattle.central.specs.declared.Ruling.the-variants as ruling
+use Rattle.pass.specs.Pass.{Passed, passed, pass, passNumber, passInto}
+use Rattle.retention.specs.Record.{commonTable, recordOf, Recorded, recorded, written as in-both}
+use Rattle.pass_record.specs.PassRecord.{passRecordNumber, passRecordInto}
+use Rattle.job.specs.Simulation.{stepFrom, replayFrom, numbersFrom, endMarks}
+use Rattle.job.proofs.StepLaws.{refused-leaves}
+use Rattle.simulation.specs.Run.{simulateOf, recordByNumber, recordByInto, stepsOf, Ran, ran, runNumber, runOf}
+use Rattle.script.specs.Script.{rehearseInto}
+use Rattle.refusals.specs.Claim.{RefusalsLeave, guardNumber, stepNumber, hearNumber, simulateNumber, ruleNumber}
+use Rattle.refusals.proofs.ChoiceLaws.{choice, refusal, tested}
+
+rewrite-leaves : (p b : List ℕ) → (rewriteOf p b .number ≡ 0 → ⊥) → rewriteOf p b .out ≡ b
+unfolding rewriteOf
+rewrite-leaves p b =
+    tested (λ (r : Rewrote). r .number) (λ r. r .out ≡ b) (rewriteNumber p b) (rewrote (rewriteNumber p b) b) (rewrote 0 (rewritten p)) refl (λ e. refl)
+
+depths-leave : (p d : List ℕ) → (depthsOf p d .number ≡ 0 → ⊥) → depthsOf p d .depths ≡ d
+unfolding depthsOf
+depths-leave p d =
+    tested (λ (r : Checked). r .number) (λ r. r .depths ≡ d) (depthsNumber p d) (checked d (depthsNumber p d)) (checked (table (depth p) (size p)) 0) refl (λ e. refl)
+
+-- a guard: 1 to 9, then its room
+module _ (b : List ℕ) where
+  abbrev answered : Filled → ℕ
+  answered s = writtenNumber (s .answer)
+
+  abbrev kept : Filled → Type 0
+  kept s = s .buffer ≡ b
+
+  fitted-leaves : (x : List ℕ) (rule : ℕ) → (answered (fitted x rule b) ≡ 0 → ⊥) → kept (fitted x rule b)
+  unfolding fitted writtenNumber
+  fitted-leaves x rule =
+      choice (λ s. (answered s ≡ 0 → ⊥) → kept s) (not (leb (length x) (length b))) (filled b (Refused 7)) (filled (x ++ drop (length x) b) (Done (written (length x) rule)))
+      (λ e n. refl) (λ e n. absurd (n refl))
+
+  guard-leaves : (p : List ℕ) (code node : ℕ) → (guardNumber p code node b ≡ 0 → ⊥) → writeOf p code node b .buffer ≡ b
+  unfolding writeOf
+  guard-leaves p code node =
+      let n = invalid p true true code node in
+      refusal answered kept n (filled b (Refused n)) (fitted (encode (guard p (eventOf code node))) (ruleByte p (eventOf code node)) b) refl
+      (λ e. fitted-leaves (encode (guard p (eventOf code node))) (ruleByte p (eventOf code node)))
+
+-- a step, a message and a step of a simulation
+step-left : (p : List ℕ) (code node : ℕ) (row : List ℕ) → (stepNumber p code node row ≡ 0 → ⊥) → stepOf p code node row .row ≡ row
+step-left p code node row h = step-leaves p code node row ∙ rw (ne-eqb (stepNumber p code node row) 0 h)
+
+hear-leaves : (p : List ℕ) (code node : ℕ) (row : List ℕ) → (hearNumber p code node row ≡ 0 → ⊥) → hearOf p code node row .row ≡ row
+unfolding hearOf
+hear-leaves p code node row =
+    let n = stepInvalid p code node row in
+    tested (λ (s : Told). s .number) (λ s. s .row ≡ row) n (told row n) (told (hear row code node) 0) refl (λ e. refl)
+
+simulate-leaves : (p : List ℕ) (code node q : ℕ) (st : List ℕ) → (simulateNumber p code node q st ≡ 0 → ⊥) → simulateOf p code node q st .state ≡ st
+unfolding simulateOf
+simulate-leaves p code node q st = refused-leaves p (own p) st (stepFrom code node q)
+
+-- the central rule: 1 to 9; what it forbids has number 0 and is left too
+module _ (m k : List ℕ) where
+  abbrev ruling-is : Ruled → ℕ
+  ruling-is s = rulingNumber (s .ruling)
+
+  abbrev both : Ruled → Type 0
+  both s = (s .marks ≡ m) × (s .notes ≡ k)
+
+  central-leaves : (p : List ℕ) (code node : ℕ) → (ruleNumber p code node m k ≡ 0 → ⊥) → (ruleOf p code node m k .marks ≡ m) × (ruleOf p code node m k .notes ≡ k)
+  unfolding ruleOf decide rulingNumber
+  central-leaves p code node =
+      let n = ruleInvalid p code node m k in
+      let e = eventOf code node in
+      tested ruling-is both n (ruled m k (ruling.Refused n)) (decide p e m k) (refl, refl)
+      (λ z. choice (λ s. ruling-is s ≡ 0) (allowed p (stateOf m k) e) (ruled (marksAfter (e .code) (e .node) m) (notesAfter (e .code) (e .node) k) ruling.Allowed) (ruled m k ruling.Forbidden)
+      (λ h. refl) (λ h. refl))
+
+-- the pass: 1 to 7, then its own fault
+pass-leaves : (p a m : List ℕ) → (passInto p a m .number ≡ 0 → ⊥) → passInto p a m .marks ≡ m
+unfolding passInto
+pass-leaves p a m =
+    let x = passed (passNumber p a m) m in
+    let y = passed (pass p a .number) m in
+    refusal (λ (r : Passed). r .number) (λ r. r .marks ≡ m) (passNumber p a m) x (cond (not (eqb (pass p a .number) 0)) y (pass p a)) refl
+    (λ e. tested (λ (r : Passed). r .number) (λ r. r .marks ≡ m) (pass p a .number) y (pass p a) refl (λ z. z))
+
+-- a record, and a list of steps
+module _ (m c : List ℕ) where
+  abbrev buffers : Recorded → Type 0
+  buffers r = (r .marks ≡ m) × (r .classes ≡ c)
+
+  pass-record-leaves : (p tab a : List ℕ) → (passRecordInto p tab a m c .number ≡ 0 → ⊥) →
+      (passRecordInto p tab a m c .marks ≡ m) × (passRecordInto p tab a m c .classes ≡ c)
+  unfolding passRecordInto
+  pass-record-leaves p tab a =
+      let n = passRecordNumber p tab a m c in
+      tested (λ (r : Recorded). r .number) buffers n (recorded n m c) (in-both (recordOf p tab (pass p a .marks))) (refl, refl) (λ e. refl)
+
+  record-leaves : (p tab st : List ℕ) → (recordByInto p tab st m c .number ≡ 0 → ⊥) → (recordByInto p tab st m c .marks ≡ m) × (recordByInto p tab st m c .classes ≡ c)
+  unfolding recordByInto
+  record-leaves p tab st =
+      let n = recordByNumber p tab st m c in
+      tested (λ (r : Recorded). r .number) buffers n (recorded n m c) (in-both (recordOf p tab (endMarks p (own p) st))) (refl, refl) (λ e. refl)
+
+run-leaves : (p bs st ns : List ℕ) → (runOf p bs st ns .number ≡ 0 → ⊥) → (runOf p bs st ns .state ≡ st) × (runOf p bs st ns .numbers ≡ ns)
+unfolding runOf
+run-leaves p bs st ns =
+    let n = runNumber p bs st ns in
+    tested (λ (r : Ran). r .number) (λ r. (r .state ≡ st) × (r .numbers ≡ ns)) n (ran n st ns)
+    (ran 0 (replayFrom p (own p) st (stepsOf bs)) (numbersFrom p (own p) st (stepsOf bs))) (refl, refl) (λ e. refl)
+
+text-leaves : (t b : List ℕ) → length b < 16384 → (rehearseInto t b .place ≡ 0) × (rehearseInto t b .buffer ≡ b)
+unfolding rehearseInto
+text-leaves t b l = rw (lt-ltb (length b) 16384 l) (refl, refl)
+
+pub refusals-leave : RefusalsLeave
+refusals-leave = record {
+  rewrite = rewrite-leaves;
+  check-depths = depths-leave;
+  guarded = λ p code node b. guard-leaves b p code node;
+  step = step-left;
+  hear = hear-leaves;
+  simulate = simulate-leaves;
+  central = λ p code node m k. central-leaves m k p code node;
+  pass = pass-leaves;
+  pass-record = λ p tab a m c. pass-record-leaves m c p tab a;
+  end-record = λ p st m c. record-leaves m c p commonTable st;
+  end-record-by = λ p tab st m c. record-leaves m c p tab st;
+  run = run-leaves;
+  text = text-leaves;
+}

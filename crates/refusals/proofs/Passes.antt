@@ -1,0 +1,153 @@
+-- An accepted plan with right lengths passes the tests 1 to 7. Assumes nothing.
+use mathlib.Core.Path.{_≡_, refl}
+use mathlib.Core.Bool.{Bool, true, cond, not, _&&_}
+use mathlib.Core.List.{List}
+use Prim.Native.Nat.{ℕ, _*_, _/_, _%_, _≤_}
+use native.Mathlib.Omega.{arith}
+use borrow.Author.Tests.{eq-eqb, le-leb}
+use lib.Dec.{eqb}
+use lib.ListN.{length}
+use Rattle.lists.specs.Seq.{allBelow}
+use Rattle.lists.proofs.Logic.{and-join}
+use Rattle.plan.specs.Plan.{size}
+use Rattle.plan.specs.Check.{Accepted, fitNumber}
+use Rattle.plan.proofs.Main.{fit-exact}
+use Rattle.event.specs.Event.{eventOf, known, applies}
+use Rattle.event.specs.Site.{own}
+use Rattle.event.specs.Valid.{invalid}
+use Rattle.checker.specs.Depths.{depthsNumber, depthsOf}
+use Rattle.rewrite.specs.Rewrite.{rewriteNumber, rewriteOf}
+use Rattle.guard.specs.Guard.{guard, holds, barred}
+use Rattle.guard.specs.Rule.{ruleByte}
+use Rattle.guard.specs.Bytes.{encode}
+use Rattle.writer.specs.Written.{Filled, filled, writtenNumber, fitted, writeOf}
+use Rattle.writer.specs.declared.Written.the-variants.{Refused}
+use Rattle.site.specs.Verdict.{verdictNumber, refusalNumber}
+use Rattle.site.specs.Step.{Stepped, stepped, Told, told, stepInvalid, decide, stepOf, hearOf}
+use Rattle.site.specs.declared.Refusal.the-variants.{Invalid}
+use Rattle.site.specs.declared.Verdict.the-variants as verdict
+use Rattle.site.proofs.StepLaws.{decision-10, decision-11, decision-0}
+use Rattle.row.specs.Row.{heard, hear}
+use Rattle.central.specs.Central.{allowed}
+use Rattle.central.specs.Rule.{Ruled, ruled, rulingNumber, rightSize, stateOf, ruleInvalid, marksAfter, notesAfter, ruleOf}
+use Rattle.central.specs.Rule.{decide as decided-by}
+use Rattle.central.specs.declared.Ruling.the-variants as ruling
+use Rattle.pass.specs.Pass.{Passed, passed, pass, passNumber, passInto}
+use Rattle.retention.specs.Record.{commonTable, frameOk, tableOk, tableNumber, Record, recordOf, Recorded, recorded, written}
+use Rattle.pass_record.specs.PassRecord.{lentNumber, passRecordNumber, passRecordInto}
+use Rattle.job.specs.Simulation.{stateFits, endMarks}
+use Rattle.simulation.specs.Run.{recordNumber, recordByNumber, recordInto, recordByInto, runNumber, runOf}
+use Rattle.refusals.specs.Claim.{Later, stepNumber, hearNumber, guardNumber, ruleNumber}
+use Rattle.refusals.proofs.ChoiceLaws.{choice}
+use Rattle.refusals.proofs.PassNumbers.{none-later, pass-later}
+
+table-later : (tab : List ℕ) → Later (tableNumber tab)
+unfolding tableNumber
+table-later tab = choice Later (tableOk tab) 0 21 (λ e. none-later) (λ e l. omega arith)
+
+common-right : tableNumber commonTable ≡ 0
+unfolding tableNumber tableOk frameOk commonTable allBelow
+common-right = refl
+
+module _ (p : List ℕ) (ok : Accepted p) where
+  fit : (right : Bool) → right ≡ true → fitNumber p right ≡ 0
+  fit right e = fit-exact p right .none .1 (ok, e)
+
+  one : (x : List ℕ) → length x ≡ size p → eqb (length x) (size p) ≡ true
+  one x e = eq-eqb (length x) (size p) e
+
+  pub rewrite-passes : (b : List ℕ) → length b ≡ length p → rewriteOf p b .number ≡ 0
+  unfolding rewriteOf rewriteNumber
+  rewrite-passes b e = rw (fit (eqb (length b) (length p)) (eq-eqb (length b) (length p) e))
+
+  pub depths-pass : (d : List ℕ) → length d ≡ size p → depthsOf p d .number ≡ 0
+  unfolding depthsOf depthsNumber
+  depths-pass d e = rw (fit (eqb (length d) (size p)) (one d e))
+
+  -- with right lengths, 8 and 9 are left
+  pub invalid-later : (fits sited : Bool) (code node : ℕ) → fits ≡ true → Later (invalid p fits sited code node)
+  unfolding invalid
+  invalid-later fits sited code node e =
+      rw (fit fits e)
+      (choice Later (not (known p code node && sited)) 8 (cond (not (applies p (eventOf code node))) 9 0) (λ e l. omega arith)
+      (λ e. choice Later (not (applies p (eventOf code node))) 9 0 (λ e l. omega arith) (λ e. none-later)))
+
+  pub guard-passes : (code node : ℕ) (b : List ℕ) → length (encode (guard p (eventOf code node))) ≤ length b → Later (guardNumber p code node b)
+  unfolding writeOf fitted writtenNumber
+  guard-passes code node b l =
+      let n = invalid p true true code node in
+      let x = encode (guard p (eventOf code node)) in
+      choice (λ (s : Filled). Later (writtenNumber (s .answer))) (not (eqb n 0)) (filled b (Refused n)) (fitted x (ruleByte p (eventOf code node)) b)
+      (λ e. invalid-later true true code node refl) (λ e. rw (le-leb (length x) (length b) l) none-later)
+
+  module _ (code node : ℕ) (row : List ℕ) (long : length row ≡ size p) where
+    test-later : Later (stepInvalid p code node row)
+    unfolding stepInvalid
+    test-later = invalid-later (eqb (length row) (size p)) true code node (one row long)
+
+    pub step-later : Later (stepNumber p code node row)
+    unfolding stepOf decide verdictNumber refusalNumber
+    step-later =
+        let n = stepInvalid p code node row in
+        let P : Stepped → Type 0 = λ s. Later (verdictNumber (s .verdict)) in
+        choice P (not (eqb n 0)) (stepped row (verdict.Refused (Invalid n))) (decide p code node row) (λ e. test-later)
+        (λ e. choice P (barred p (heard row) (eventOf code node)) (decision-10 p code node row)
+        (cond (not (holds (heard row) (guard p (eventOf code node)))) (decision-11 p code node row) (decision-0 p code node row)) (λ e l. omega arith)
+        (λ e. choice P (not (holds (heard row) (guard p (eventOf code node)))) (decision-11 p code node row) (decision-0 p code node row) (λ e l. omega arith) (λ e. none-later)))
+
+    pub hear-later : Later (hearNumber p code node row)
+    unfolding hearOf
+    hear-later =
+        let n = stepInvalid p code node row in
+        choice (λ (s : Told). Later (s .number)) (not (eqb n 0)) (told row n) (told (hear row code node) 0) (λ e. test-later) (λ e. none-later)
+
+  pub central-later : (code node : ℕ) (m k : List ℕ) → length m ≡ size p → length k ≡ size p → Later (ruleNumber p code node m k)
+  unfolding ruleOf ruleInvalid rightSize decided-by rulingNumber
+  central-later code node m k lm lk =
+      let n = ruleInvalid p code node m k in
+      let e = eventOf code node in
+      let P : Ruled → Type 0 = λ s. Later (rulingNumber (s .ruling)) in
+      choice P (not (eqb n 0)) (ruled m k (ruling.Refused n)) (decided-by p e m k)
+      (λ z. invalid-later (rightSize p m k) true code node (and-join _ _ (one m lm) (one k lk)))
+      (λ z. choice P (allowed p (stateOf m k) e) (ruled (marksAfter (e .code) (e .node) m) (notesAfter (e .code) (e .node) k) ruling.Allowed) (ruled m k ruling.Forbidden)
+      (λ h. none-later) (λ h. none-later))
+
+  pub pass-passes : (a m : List ℕ) → length a ≡ size p → length m ≡ size p → Later (passInto p a m .number)
+  unfolding passInto passNumber
+  pass-passes a m la lm =
+      rw (fit (eqb (length a) (size p) && eqb (length m) (size p)) (and-join _ _ (one a la) (one m lm)))
+      (choice (λ (r : Passed). Later (r .number)) (not (eqb (pass p a .number) 0)) (passed (pass p a .number) m) (pass p a) (λ e. pass-later p a) (λ e. pass-later p a))
+
+  -- a table's number, and a later one behind it
+  behind-table : (tab : List ℕ) (n : ℕ) → Later n → Later (cond (not (eqb (tableNumber tab) 0)) (tableNumber tab) n)
+  behind-table tab n h = choice Later (not (eqb (tableNumber tab) 0)) (tableNumber tab) n (λ e. table-later tab) (λ e. h)
+
+  -- a record that is refused with a later number n, or r
+  recorded-later : (n : ℕ) (m c : List ℕ) (r : Record) → Later n → Later (cond (not (eqb n 0)) (recorded n m c) (written r) .number)
+  recorded-later n m c r h = choice (λ (s : Recorded). Later (s .number)) (not (eqb n 0)) (recorded n m c) (written r) (λ e. h) (λ e. none-later)
+
+  pub pass-record-passes : (tab a m c : List ℕ) → length a ≡ size p → length m ≡ size p → length c ≡ size p → Later (passRecordInto p tab a m c .number)
+  unfolding passRecordInto passRecordNumber lentNumber
+  pass-record-passes tab a m c la lm lc =
+      recorded-later (passRecordNumber p tab a m c) m c (recordOf p tab (pass p a .marks))
+      (behind-table tab _ (rw (fit (eqb (length a) (size p) && eqb (length m) (size p) && eqb (length c) (size p)) (and-join _ _ (and-join _ _ (one a la) (one m lm)) (one c lc))) (pass-later p a)))
+
+  -- a state of nodes times nodes
+  square : (st m c : List ℕ) → length st ≡ size p * size p → length m ≡ size p → length c ≡ size p → recordNumber p st m c ≡ 0
+  unfolding recordNumber stateFits own
+  square st m c ls lm lc = fit _ (and-join _ _ (and-join _ _ (eq-eqb (length st) (size p * size p) ls) (one m lm)) (one c lc))
+
+  pub record-passes : (st m c : List ℕ) → length st ≡ size p * size p → length m ≡ size p → length c ≡ size p → recordInto p st m c .number ≡ 0
+  unfolding recordByInto recordByNumber
+  record-passes st m c ls lm lc = rw (common-right, square st m c ls lm lc)
+
+  pub record-by-passes : (tab st m c : List ℕ) → length st ≡ size p * size p → length m ≡ size p → length c ≡ size p → Later (recordByInto p tab st m c .number)
+  unfolding recordByInto recordByNumber
+  record-by-passes tab st m c ls lm lc =
+      recorded-later (recordByNumber p tab st m c) m c (recordOf p tab (endMarks p (own p) st)) (behind-table tab (recordNumber p st m c) (rw (square st m c ls lm lc) none-later))
+
+  pub run-passes : (bs st ns : List ℕ) → length st ≡ size p * size p → length bs % 3 ≡ 0 → length ns ≡ length bs / 3 → runOf p bs st ns .number ≡ 0
+  unfolding runOf runNumber stateFits own
+  run-passes bs st ns ls lb ln =
+      rw (fit (eqb (length st) (size p * size p) && eqb (length bs % 3) 0 && eqb (length ns) (length bs / 3))
+      (and-join _ _ (and-join _ _ (eq-eqb (length st) (size p * size p) ls) (eq-eqb (length bs % 3) 0 lb)) (eq-eqb (length ns) (length bs / 3) ln)))

@@ -1,0 +1,109 @@
+-- THE CLAIM OF DEMAND 1 (rules A and H): which plans are accepted, that an accepted plan with right lengths is not refused with 1 to 7, and that a
+-- refused call leaves every lent byte. It is about the definitions that the contracts of the C functions cite. Definitions only.
+use mathlib.Core.Path.{_≡_}
+use mathlib.Core.List.{List}
+use Prim.Native.Nat.{ℕ, _*_, _/_, _%_, _≤_, _<_}
+use lib.ListN.{length}
+use Rattle.plan.specs.Plan.{size}
+use Rattle.plan.specs.Check.{Accepted, CheckExact}
+use Rattle.checker.specs.Depths.{depthsOf}
+use Rattle.rewrite.specs.Rewrite.{rewriteOf}
+use Rattle.event.specs.Event.{eventOf}
+use Rattle.guard.specs.Guard.{guard}
+use Rattle.guard.specs.Bytes.{encode}
+use Rattle.writer.specs.Written.{writtenNumber, writeOf}
+use Rattle.site.specs.Verdict.{verdictNumber}
+use Rattle.site.specs.Step.{stepOf, hearOf}
+use Rattle.central.specs.Rule.{rulingNumber, ruleOf}
+use Rattle.pass.specs.Pass.{passInto}
+use Rattle.pass_record.specs.PassRecord.{passRecordInto}
+use Rattle.simulation.specs.Run.{simulateOf, recordInto, recordByInto, runOf}
+use Rattle.script.specs.Script.{rehearseInto}
+
+-- H8 to H12: the number of the answer to an event, a message and a step of a simulation
+abbrev pub stepNumber : List ℕ → ℕ → ℕ → List ℕ → ℕ
+stepNumber p code node row = verdictNumber (stepOf p code node row .verdict)
+
+abbrev pub hearNumber : List ℕ → ℕ → ℕ → List ℕ → ℕ
+hearNumber p code node row = hearOf p code node row .number
+
+abbrev pub simulateNumber : List ℕ → ℕ → ℕ → ℕ → List ℕ → ℕ
+simulateNumber p code node q st = simulateOf p code node q st .number
+
+-- H8, H18: and of the guard writer and the central rule
+abbrev pub guardNumber : List ℕ → ℕ → ℕ → List ℕ → ℕ
+guardNumber p code node b = writtenNumber (writeOf p code node b .answer)
+
+abbrev pub ruleNumber : List ℕ → ℕ → ℕ → List ℕ → List ℕ → ℕ
+ruleNumber p code node m k = rulingNumber (ruleOf p code node m k .ruling)
+
+-- H: where the number is not 0, every lent byte is as it was
+pub record RefusalsLeave : Type 0 where
+  -- vulcedar_rewrite
+  pub rewrite : (p b : List ℕ) → (rewriteOf p b .number ≡ 0 → ⊥) → rewriteOf p b .out ≡ b
+  -- vulcedar_check_depths
+  pub check-depths : (p d : List ℕ) → (depthsOf p d .number ≡ 0 → ⊥) → depthsOf p d .depths ≡ d
+  -- vulcedar_guard
+  pub guarded : (p : List ℕ) (code node : ℕ) (b : List ℕ) → (guardNumber p code node b ≡ 0 → ⊥) → writeOf p code node b .buffer ≡ b
+  -- vulcedar_step
+  pub step : (p : List ℕ) (code node : ℕ) (row : List ℕ) → (stepNumber p code node row ≡ 0 → ⊥) → stepOf p code node row .row ≡ row
+  -- vulcedar_hear
+  pub hear : (p : List ℕ) (code node : ℕ) (row : List ℕ) → (hearNumber p code node row ≡ 0 → ⊥) → hearOf p code node row .row ≡ row
+  -- vulcedar_simulate
+  pub simulate : (p : List ℕ) (code node q : ℕ) (st : List ℕ) → (simulateNumber p code node q st ≡ 0 → ⊥) → simulateOf p code node q st .state ≡ st
+  -- vulcedar_central
+  pub central : (p : List ℕ) (code node : ℕ) (m k : List ℕ) → (ruleNumber p code node m k ≡ 0 → ⊥) →
+      (ruleOf p code node m k .marks ≡ m) × (ruleOf p code node m k .notes ≡ k)
+  -- vulcedar_pass
+  pub pass : (p a m : List ℕ) → (passInto p a m .number ≡ 0 → ⊥) → passInto p a m .marks ≡ m
+  -- vulcedar_pass_record
+  pub pass-record : (p tab a m c : List ℕ) → (passRecordInto p tab a m c .number ≡ 0 → ⊥) →
+      (passRecordInto p tab a m c .marks ≡ m) × (passRecordInto p tab a m c .classes ≡ c)
+  -- vulcedar_record
+  pub end-record : (p st m c : List ℕ) → (recordInto p st m c .number ≡ 0 → ⊥) → (recordInto p st m c .marks ≡ m) × (recordInto p st m c .classes ≡ c)
+  -- vulcedar_record_by
+  pub end-record-by : (p tab st m c : List ℕ) → (recordByInto p tab st m c .number ≡ 0 → ⊥) →
+      (recordByInto p tab st m c .marks ≡ m) × (recordByInto p tab st m c .classes ≡ c)
+  -- a list of steps in frames, which no C function has
+  pub run : (p bs st ns : List ℕ) → (runOf p bs st ns .number ≡ 0 → ⊥) → (runOf p bs st ns .state ≡ st) × (runOf p bs st ns .numbers ≡ ns)
+  -- a text, which no C function has: a buffer that is too short
+  pub text : (t b : List ℕ) → length b < 16384 → (rehearseInto t b .place ≡ 0) × (rehearseInto t b .buffer ≡ b)
+
+-- H0: 0, or a number behind 7
+abbrev pub Later : ℕ → Type 0
+Later n = 0 < n → 7 < n
+
+-- H0 to H7: an accepted plan with right lengths gets none of 1 to 7
+pub record AcceptedPass (p : List ℕ) : Type 0 where
+  -- vulcedar_rewrite
+  pub rewrite : (b : List ℕ) → length b ≡ length p → rewriteOf p b .number ≡ 0
+  -- vulcedar_check_depths
+  pub check-depths : (d : List ℕ) → length d ≡ size p → depthsOf p d .number ≡ 0
+  -- vulcedar_guard
+  pub guarded : (code node : ℕ) (b : List ℕ) → length (encode (guard p (eventOf code node))) ≤ length b → Later (guardNumber p code node b)
+  -- vulcedar_step
+  pub step : (code node : ℕ) (row : List ℕ) → length row ≡ size p → Later (stepNumber p code node row)
+  -- vulcedar_hear
+  pub hear : (code node : ℕ) (row : List ℕ) → length row ≡ size p → Later (hearNumber p code node row)
+  -- vulcedar_simulate
+  pub simulate : (code node q : ℕ) (st : List ℕ) → length st ≡ size p * size p → Later (simulateNumber p code node q st)
+  -- vulcedar_central
+  pub central : (code node : ℕ) (m k : List ℕ) → length m ≡ size p → length k ≡ size p → Later (ruleNumber p code node m k)
+  -- vulcedar_pass
+  pub pass : (a m : List ℕ) → length a ≡ size p → length m ≡ size p → Later (passInto p a m .number)
+  -- vulcedar_pass_record
+  pub pass-record : (tab a m c : List ℕ) → length a ≡ size p → length m ≡ size p → length c ≡ size p → Later (passRecordInto p tab a m c .number)
+  -- vulcedar_record
+  pub end-record : (st m c : List ℕ) → length st ≡ size p * size p → length m ≡ size p → length c ≡ size p → recordInto p st m c .number ≡ 0
+  -- vulcedar_record_by
+  pub end-record-by : (tab st m c : List ℕ) → length st ≡ size p * size p → length m ≡ size p → length c ≡ size p → Later (recordByInto p tab st m c .number)
+  -- a list of steps in frames
+  pub run : (bs st ns : List ℕ) → length st ≡ size p * size p → length bs % 3 ≡ 0 → length ns ≡ length bs / 3 → runOf p bs st ns .number ≡ 0
+
+pub record Demand1 : Type 0 where
+  -- A1 to A6: the check passes every plan within the limits, and no other
+  pub exact : CheckExact
+  -- H0 to H7
+  pub accepted : (p : List ℕ) → Accepted p → AcceptedPass p
+  -- H
+  pub refused : RefusalsLeave
