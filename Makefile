@@ -17,8 +17,7 @@ version := $(major).$(call number,MINOR).$(call number,PATCH)
 archive = target/staticlib/libvulcedar.a
 shared = target/shared/libvulcedar.so.$(version)
 soname = libvulcedar.so.$(major)
-# the command is built where its source is there
-command = $(if $(wildcard tools/rehearse.c),target/rehearse/rehearse)
+command = target/rehearse/rehearse
 packages = target/packages/vulcedar.pc target/packages/vulcedarConfig.cmake target/packages/vulcedarConfigVersion.cmake
 pkgconfig = $(libdir)/pkgconfig
 cmakedir = $(libdir)/cmake/vulcedar
@@ -30,8 +29,6 @@ proved = $(shell find crates -name '*.rt' -o -name '*.antt') crates.txt
 .DELETE_ON_ERROR:
 
 all: ready $(archive) $(shared) $(command) ## the archive, the shared library and the command rehearse, below target/
-
-	@$(if $(command),,echo 'tools/rehearse.c is not there: the command rehearse is left out')
 
 # what is missing is said first
 ready:
@@ -52,7 +49,7 @@ $(shared): $(archive) packaging/vulcedar.map
 	@ln -sf $(notdir $@) $(@D)/$(soname)
 	@ln -sf $(soname) $(@D)/libvulcedar.so
 
-target/rehearse/rehearse: tools/rehearse.c include/vulcedar.h $(archive)
+$(command): tools/rehearse.c include/vulcedar.h $(archive)
 	@mkdir -p $(@D)
 	$(CC) -std=c99 $(CFLAGS) -Iinclude $< $(archive) -o $@
 
@@ -87,7 +84,7 @@ install: $(archive) $(shared) $(command) $(packages) ## header, both libraries, 
 	install -m 755 $(shared) '$(DESTDIR)$(libdir)/libvulcedar.so.$(version)'
 	ln -sf libvulcedar.so.$(version) '$(DESTDIR)$(libdir)/$(soname)'
 	ln -sf $(soname) '$(DESTDIR)$(libdir)/libvulcedar.so'
-	$(if $(command),install -m 755 $(command) '$(DESTDIR)$(bindir)/rehearse')
+	install -m 755 $(command) '$(DESTDIR)$(bindir)/rehearse'
 	install -m 644 target/packages/vulcedar.pc '$(DESTDIR)$(pkgconfig)/vulcedar.pc'
 	install -m 644 target/packages/vulcedarConfig.cmake target/packages/vulcedarConfigVersion.cmake '$(DESTDIR)$(cmakedir)'
 

@@ -41,7 +41,8 @@
  *
  * CALLING. No call keeps or allocates anything; each may be called from any thread. Buffers of one call must not overlap,
  * and nobody else may write them during the call. A length says how many bytes behind the pointer are there; with length 0
- * nothing is read or written, and the pointer may be null. A call takes at most VULCEDAR_STACK_MOST bytes of stack (measured for the largest plans).
+ * nothing is read or written, and the pointer may be null. A call takes at most VULCEDAR_STACK_MOST bytes of stack,
+ * vulcedar_rehearse at most VULCEDAR_REHEARSE_STACK_MOST (measured for the largest plans and texts).
  *
  * MACHINES. The library is compiled for x86-64 Linux with glibc (any x86-64 processor; position independent code). Of the
  * C library it needs memcpy and memset.
@@ -144,6 +145,7 @@ enum vulcedar_number {
 #define VULCEDAR_GUARD_MOST 290u
 #define VULCEDAR_TABLE_LENGTH 12u
 #define VULCEDAR_STACK_MOST 8192u
+#define VULCEDAR_REHEARSE_STACK_MOST 65536u
 
 /* The common table, to initialise VULCEDAR_TABLE_LENGTH bytes: static const uint8_t table[] = VULCEDAR_COMMON_TABLE; */
 #define VULCEDAR_COMMON_TABLE { \
@@ -258,8 +260,7 @@ uint32_t vulcedar_record_by(const uint8_t *plan, size_t plan_len, const uint8_t 
  * prints at the front of out a line for each step, its number, and a line for each node, its number, kind, mark and class.
  * The value is the length printed; the bytes of out behind it are left. 15 if the text is malformed or longer than
  * VULCEDAR_TEXT_MOST, then 21 for its table, 1 to 6 for its plan, then 7 if out_len is below VULCEDAR_PRINTED_MOST. A step
- * that is refused has its number in its line and does not refuse the text. out is written only on 0. It uses about 50 KB
- * of stack.
+ * that is refused has its number in its line and does not refuse the text. out is written only on 0.
  */
 uint32_t vulcedar_rehearse(const uint8_t *text, size_t text_len, uint8_t *out, size_t out_len);
 

@@ -26,6 +26,7 @@ static void nulls(void)
 {
     static const uint8_t plan[] = { VULCEDAR_TASK, VULCEDAR_NO_PARENT };
     static const uint8_t table[] = VULCEDAR_COMMON_TABLE;
+    static const uint8_t text[] = { '0', '1', 'f', 'f', '\n', '-', '-', '\n' };
     expect("check of nothing", vulcedar_check(NULL, 0), VULCEDAR_BAD_LENGTH);
     expect("rewrite of nothing", vulcedar_rewrite(NULL, 0, NULL, 0), VULCEDAR_BAD_LENGTH);
     expect("depths of nothing", vulcedar_check_depths(NULL, 0, NULL, 0), VULCEDAR_BAD_LENGTH);
@@ -43,6 +44,8 @@ static void nulls(void)
     expect("pass's record by no table", vulcedar_pass_record(NULL, 0, NULL, 0, NULL, 0, NULL, 0, NULL, 0), VULCEDAR_BAD_TABLE);
     expect("pass's record by a table", vulcedar_pass_record(NULL, 0, table, sizeof table, NULL, 0, NULL, 0, NULL, 0), VULCEDAR_BAD_LENGTH);
 
+    expect("rehearsal of nothing", vulcedar_rehearse(NULL, 0, NULL, 0), VULCEDAR_BAD_TEXT);
+    expect("rehearsal into nothing", vulcedar_rehearse(text, sizeof text, NULL, 0), VULCEDAR_BAD_BUFFER);
     expect("rewrite into nothing", vulcedar_rewrite(plan, sizeof plan, NULL, 0), VULCEDAR_BAD_BUFFER);
     expect("depths into nothing", vulcedar_check_depths(plan, sizeof plan, NULL, 0), VULCEDAR_BAD_BUFFER);
     expect("guard into nothing", vulcedar_guard(plan, sizeof plan, VULCEDAR_START, 0, NULL, 0), VULCEDAR_BAD_BUFFER);

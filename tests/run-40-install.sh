@@ -60,10 +60,11 @@ else
   echo "install: not tried by CMake: $(cat "$work/note")"
 fi
 
-# the command, where it is installed, prints what the example says
-if [ -e "$at/bin/rehearse" ]; then "$at/bin/rehearse" < examples/first.txt | diff examples/first.out -; fi
+# the command prints what the example says, and has the version
+"$at/bin/rehearse" < examples/first.txt | diff examples/first.out -
+"$at/bin/rehearse" --version | grep -qF " $version"
 
 make --no-print-directory uninstall "${into[@]}" > "$work/uninstall.log"
 left=$(find "$root" ! -type d)
 [ -z "$left" ] || { echo "install: left behind by uninstall: $left"; exit 1; }
-echo "install: header, archive, shared library, pkg-config and CMake files are put down, used and taken away"
+echo "install: header, archive, shared library, the command, pkg-config and CMake files are put down, used and taken away"

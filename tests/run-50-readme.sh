@@ -11,7 +11,6 @@ if [ -e .git ] && command -v git > /dev/null; then git ls-files; else find . -ty
 tar -cf - -T "$work/files" | tar -xf - -C "$clone"
 mkdir "$clone/target"
 cp -a target/rlib target/stamp "$clone/target/"
-rm -f "$clone"/target/stamp/{rehearse,cases}
 
 # the blocks, one a file, in order: 01.sh 02.text ..
 awk -v to="$work" '

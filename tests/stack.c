@@ -1,7 +1,7 @@
 /*
  * How much stack a call takes: every exported function is called on a painted stack of its own, for plans of 160 nodes as
  * deep and as wide as they may be, and for every event of them. Prints the deepest of each function; fails if one is
- * above VULCEDAR_STACK_MOST. Symbols must be bound beforehand (-Wl,-z,now): the loader's own stack is not the library's.
+ * above what the header says. Symbols must be bound beforehand (-Wl,-z,now): the loader's own stack is not the library's.
  */
 #define _GNU_SOURCE
 #include <stdio.h>
@@ -11,11 +11,12 @@
 
 #include "vulcedar.h"
 
-enum { NODES = VULCEDAR_NODES_MOST, WORDS = 4 * VULCEDAR_STACK_MOST / sizeof(uint64_t) };
+enum { NODES = VULCEDAR_NODES_MOST };
 #define PAINT 0xa5a5a5a5a5a5a5a5u
 
 static uint8_t plan[2 * NODES], row[NODES], marks[NODES], notes[NODES], classes[NODES], answers[NODES], out[2 * NODES];
-static uint8_t state[NODES * NODES], buf[VULCEDAR_GUARD_MOST];
+static uint8_t state[NODES * NODES], buf[VULCEDAR_GUARD_MOST], text[VULCEDAR_TEXT_MOST], printed[VULCEDAR_PRINTED_MOST];
+static size_t text_len;
 static const uint8_t table[] = VULCEDAR_COMMON_TABLE;
 static uint32_t nodes, code, node, answer;
 
@@ -37,32 +38,36 @@ static void central(void) { answer = vulcedar_central(plan, 2 * nodes, code, nod
 static void check_table(void) { answer = vulcedar_check_table(table, sizeof table); }
 static void pass_record(void) { answer = vulcedar_pass_record(plan, 2 * nodes, table, sizeof table, answers, nodes, marks, nodes, classes, nodes); }
 static void version(void) { answer = vulcedar_version(); }
+static void rehearse(void) { answer = vulcedar_rehearse(text, text_len, printed, sizeof printed); }
 
 static struct call { const char *name; void (*run)(void); int events; size_t most; } calls[] = {
     { "check", check, 0, 0 }, { "rewrite", rewrite, 0, 0 }, { "check_depths", check_depths, 0, 0 },
     { "guard", guard, 1, 0 }, { "guard (short buffer)", short_guard, 1, 0 }, { "rule", rule, 1, 0 }, { "step", step, 1, 0 },
     { "hear", hear, 1, 0 }, { "pass", pass, 0, 0 }, { "simulate (event)", happen, 1, 0 }, { "simulate (message)", tell, 1, 0 },
     { "record", record, 0, 0 }, { "record_by", record_by, 0, 0 }, { "central", central, 1, 0 },
-    { "check_table", check_table, 0, 0 }, { "pass_record", pass_record, 0, 0 }, { "version", version, 0, 0 },
+    { "check_table", check_table, 0, 0 }, { "pass_record", pass_record, 0, 0 }, { "version", version, 0, 0 }, { "rehearse", rehearse, 0, 0 },
 };
 enum { CALLS = sizeof calls / sizeof calls[0] };
 
-static _Alignas(64) uint64_t stack[WORDS];
+static _Alignas(64) uint64_t stack[2 * VULCEDAR_REHEARSE_STACK_MOST / sizeof(uint64_t)];
 static ucontext_t here, there;
 
-/* The bytes of a fresh stack that a function touches, in whole words. */
+/* How much stack the header says a function takes. */
+static size_t granted(void (*run)(void)) { return run == rehearse ? VULCEDAR_REHEARSE_STACK_MOST : VULCEDAR_STACK_MOST; }
+
+/* The bytes of a fresh stack, twice as large as should do, that a function touches, in whole words. */
 static size_t touched(void (*run)(void))
 {
-    size_t i = 0;
-    for (size_t k = 0; k < WORDS; k++) stack[k] = PAINT;
+    size_t i = 0, words = 2 * granted(run) / sizeof(uint64_t);
+    for (size_t k = 0; k < words; k++) stack[k] = PAINT;
     getcontext(&there);
     there.uc_stack.ss_sp = stack;
-    there.uc_stack.ss_size = sizeof stack;
+    there.uc_stack.ss_size = words * sizeof(uint64_t);
     there.uc_link = &here;
     makecontext(&there, run, 0);
     swapcontext(&here, &there);
-    while (i < WORDS && stack[i] == PAINT) i++;
-    return sizeof stack - i * sizeof(uint64_t);
+    while (i < words && stack[i] == PAINT) i++;
+    return (words - i) * sizeof(uint64_t);
 }
 
 static void measure(struct call *c, size_t none)
@@ -102,10 +107,24 @@ static void wide(uint32_t kind)
     while (nodes < NODES) add(VULCEDAR_TASK, 1 + (nodes - 33) / 32);
 }
 
+/* The plan as a text, with as many steps as fit behind it, every event in turn and every message. */
+static void write_text(void)
+{
+    char *at = (char *)text, *end = at + sizeof text;
+    for (uint32_t v = 0; v < nodes; v++) at += sprintf(at, "%02x%02x\n", plan[2 * v], plan[2 * v + 1]);
+    at += sprintf(at, "--\n");
+    for (uint32_t k = 0; end - at > 7; k++)
+        at += sprintf(at, "%02x%02x%02x\n", 1 + k / 2 % 8, k / 16 % nodes, k % 2 ? k % nodes : VULCEDAR_HAPPENS);
+    text_len = (size_t)(at - (char *)text);
+}
+
 static void measure_plan(size_t none)
 {
     uint32_t r = vulcedar_check(plan, 2 * nodes);
     if (r != VULCEDAR_PASSED) printf("stack: a plan is refused with %u\n", r), exit(1);
+    write_text();
+    r = vulcedar_rehearse(text, text_len, printed, sizeof printed);
+    if (VULCEDAR_NUMBER(r) != VULCEDAR_PASSED) printf("stack: a text is refused with %u\n", VULCEDAR_NUMBER(r)), exit(1);
     for (size_t c = 0; c < CALLS; c++)
         for (uint32_t full = 0; full < 2; full++)
             for (node = 0; node < (calls[c].events ? nodes : 1); node++)
@@ -120,7 +139,8 @@ static void measure_plan(size_t none)
 
 int main(void)
 {
-    size_t none = touched(nothing), most = 0;
+    size_t none = touched(nothing);
+    int over = 0;
     for (uint32_t kind = VULCEDAR_SERIAL; kind <= VULCEDAR_WAITING_AND; kind++) {
         deep(kind, 1), measure_plan(none);
         if (kind == VULCEDAR_CONDITIONAL) continue;
@@ -129,9 +149,9 @@ int main(void)
         wide(kind), measure_plan(none);
     }
     for (size_t c = 0; c < CALLS; c++) {
-        printf("%-22s %6zu bytes\n", calls[c].name, calls[c].most);
-        if (calls[c].most > most) most = calls[c].most;
+        printf("%-22s %6zu bytes of %zu\n", calls[c].name, calls[c].most, granted(calls[c].run));
+        over += calls[c].most > granted(calls[c].run);
     }
-    printf("stack: a call took at most %zu bytes; the header says %u\n", most, VULCEDAR_STACK_MOST);
-    return most <= VULCEDAR_STACK_MOST ? 0 : 1;
+    printf("stack: %d calls take more than the header says\n", over);
+    return over == 0 ? 0 : 1;
 }
