@@ -1,6 +1,8 @@
 //! A job of hosts: every site has a row of its own, an event is a step on the
 //! row of its site, and a message is heard only of what has happened. Rows and
 //! results must be those of the simulation, in whatever order all this comes.
+//! Since a host has nothing but its row, they must also be the same again in
+//! any other order that each host could not tell from the first.
 
 use crate::codes::*;
 use crate::driver::{Driver, Step, Temper, Tree};
@@ -8,7 +10,7 @@ use crate::implementation::Implementation;
 use crate::lent::Pair;
 use crate::random::Random;
 use crate::trial::{Trial, hex};
-use std::collections::HashSet;
+use std::collections::{HashSet, VecDeque};
 
 /// The hosts of a plan, beside a simulation of the same steps.
 struct Hosts<'a> {
@@ -18,6 +20,8 @@ struct Hosts<'a> {
     state: Pair,
     /// What has happened: the events that passed at their sites.
     happened: HashSet<(u32, u32)>,
+    /// What each host did, in its own order, with the results.
+    done: Vec<VecDeque<(Step, u32)>>,
 }
 
 /// Runs a job of hosts, usually to the end.
@@ -34,19 +38,29 @@ pub fn run<S: Implementation, R: Implementation>(trial: &mut Trial<S, R>, random
             None => return,
         }
     }
-    hosts.compare_all(trial);
+    if hosts.compare_all(trial) {
+        hosts.reorder(trial, random);
+    }
+}
+
+/// So many zeros, for both sides.
+fn fresh(length: usize) -> Pair {
+    let mut pair = Pair::default();
+    pair.load(&vec![0; length]);
+    pair
 }
 
 impl Hosts<'_> {
     fn new(plan: &[u8]) -> Hosts<'_> {
         let nodes = plan.len() / 2;
-        let fresh = |length: usize| {
-            let mut pair = Pair::default();
-            pair.load(&vec![0; length]);
-            pair
-        };
-        let rows = (0..nodes).map(|_| fresh(nodes)).collect();
-        Hosts { plan, tree: Tree::new(plan), rows, state: fresh(nodes * nodes), happened: HashSet::new() }
+        Hosts {
+            plan,
+            tree: Tree::new(plan),
+            rows: (0..nodes).map(|_| fresh(nodes)).collect(),
+            state: fresh(nodes * nodes),
+            happened: HashSet::new(),
+            done: vec![VecDeque::new(); nodes],
+        }
     }
 
     /// A step at the hosts and in the simulation; answers whether it passed,
@@ -70,6 +84,9 @@ impl Hosts<'_> {
         let passed = number(result) == 0;
         if passed && site == HAPPENS {
             self.happened.insert((code, node));
+        }
+        if let (Some(row), Some(_)) = (row, by_hosts) {
+            self.done[row].push_back((step, result));
         }
         let same = same && same_at_host;
         (same && self.compare(trial, step, row, result, simulated)).then_some(passed)
@@ -117,11 +134,47 @@ impl Hosts<'_> {
     }
 
     /// All rows one after another are the simulation's state.
-    fn compare_all<S: Implementation, R: Implementation>(&self, trial: &mut Trial<S, R>) {
+    fn compare_all<S: Implementation, R: Implementation>(&self, trial: &mut Trial<S, R>) -> bool {
         let same = (0..self.rows.len()).all(|row| self.has_same_row(row));
-        trial
-            .tally
-            .compare(same, || format!("hosts have other rows than the simulation: {}", hex(self.plan)));
+        trial.tally.compare(same, || format!("hosts and simulation have other rows: {}", hex(self.plan)))
+    }
+
+    /// Simulates what the hosts did in another order, in which each host's own
+    /// is kept and no message comes before its event.
+    fn reorder<S: Implementation, R: Implementation>(mut self, trial: &mut Trial<S, R>, random: &mut Random) {
+        self.happened.clear();
+        self.state = fresh(self.state.length());
+        let mut last = 0;
+        while let Some((step, result)) = self.next_in_another_order(random, &mut last) {
+            let Step { code, node, site } = step;
+            let (simulated, same) = trial.simulate_on(self.plan, code, node, site, &mut self.state);
+            if !same || !self.compare(trial, step, None, result, simulated) {
+                return;
+            }
+            if number(result) == 0 && site == HAPPENS {
+                self.happened.insert((code, node));
+            }
+        }
+        self.compare_all(trial);
+    }
+
+    /// Takes the next step of a host that can go on, often of the last one.
+    fn next_in_another_order(&mut self, random: &mut Random, last: &mut usize) -> Option<(Step, u32)> {
+        let ready: Vec<usize> = (0..self.rows.len()).filter(|&row| self.is_ready(row)).collect();
+        if ready.is_empty() {
+            return None;
+        }
+        if !ready.contains(last) || random.chance(40) {
+            *last = random.one_of(&ready);
+        }
+        self.done[*last].pop_front()
+    }
+
+    /// Whether a host has something left to do and, if that is to hear, it has
+    /// happened by now.
+    fn is_ready(&self, row: usize) -> bool {
+        let next = self.done[row].front();
+        next.is_some_and(|(step, _)| step.site == HAPPENS || self.happened.contains(&(step.code, step.node)))
     }
 
     /// Whether a host's row is its site's row of the simulation's state, on
