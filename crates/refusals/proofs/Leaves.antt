@@ -4,7 +4,7 @@ use mathlib.Core.Bool.{true, cond, not}
 use mathlib.Core.List.{List, _++_}
 use Prim.Native.Nat.{ℕ, _<_}
 use borrow.Author.Tests.{ne-eqb, lt-ltb}
-use lib.Dec.{eqb, leb}
+use lib.Dec.{eqb, leb, ltb}
 use lib.ListN.{length, drop}
 use Rattle.lists.specs.Seq.{table}
 use Rattle.plan.specs.Plan.{size, depth}
@@ -18,20 +18,23 @@ use Rattle.guard.specs.Rule.{ruleByte}
 use Rattle.guard.specs.Bytes.{encode}
 use Rattle.writer.specs.Written.{Filled, filled, written, writtenNumber, fitted, writeOf}
 use Rattle.writer.specs.declared.Written.the-variants.{Done, Refused}
-use Rattle.site.specs.Step.{Told, told, stepInvalid, stepOf, hearOf}
+use Rattle.site.specs.Verdict.{reportOf, verdictNumber}
+use Rattle.site.specs.declared.Refusal.the-variants.{Invalid}
+use Rattle.site.specs.declared.Verdict.the-variants as verdict
+use Rattle.site.specs.Step.{Stepped, stepped, stepInvalid, stepOf, hearOf}
 use Rattle.site.proofs.StepLaws.{step-leaves}
 use Rattle.row.specs.Row.{hear}
 use Rattle.central.specs.Central.{allowed}
-use Rattle.central.specs.Rule.{Ruled, ruled, rulingNumber, stateOf, ruleInvalid, marksAfter, notesAfter, decide, ruleOf}
+use Rattle.central.specs.Rule.{Ruled, ruled, rulingNumber, stateOf, ruleInvalid, marksAfter, notesAfter, ruleOn, ruleOf}
 use Rattle.central.specs.declared.Ruling.the-variants as ruling
-use Rattle.pass.specs.Pass.{Passed, passed, pass, passNumber, passInto}
-use Rattle.retention.specs.Record.{commonTable, recordOf, Recorded, recorded, written as in-both}
+use Rattle.pass.specs.Pass.{PassResult, passResult, pass, passNumber, passInto}
+use Rattle.retention.specs.Record.{commonTable, recordOf, Recorded, recorded, classed}
 use Rattle.pass_record.specs.PassRecord.{passRecordNumber, passRecordInto}
 use Rattle.job.specs.Simulation.{stepFrom, replayFrom, numbersFrom, endMarks}
 use Rattle.job.proofs.StepLaws.{refused-leaves}
 use Rattle.simulation.specs.Run.{simulateOf, recordByNumber, recordByInto, stepsOf, Ran, ran, runNumber, runOf}
-use Rattle.script.specs.Script.{rehearseInto}
-use Rattle.refusals.specs.Claim.{RefusalsLeave, guardNumber, stepNumber, hearNumber, simulateNumber, ruleNumber}
+use Rattle.script.specs.Script.{rehearseInto, textNumber, textLines, TextRun, textRun, refused, textDone, linesInto, runTextInto}
+use Rattle.refusals.specs.Claim.{RefusalsLeave, guardNumber, eventNumber, messageNumber, simulateNumber, ruleNumber}
 use Rattle.refusals.proofs.ChoiceLaws.{choice, refusal, tested}
 
 rewrite-leaves : (p b : List ℕ) → (rewriteOf p b .number ≡ 0 → ⊥) → rewriteOf p b .out ≡ b
@@ -66,14 +69,14 @@ module _ (b : List ℕ) where
       (λ e. fitted-leaves (encode (guard p (eventOf code node))) (ruleByte p (eventOf code node)))
 
 -- a step, a message and a step of a simulation
-step-left : (p : List ℕ) (code node : ℕ) (row : List ℕ) → (stepNumber p code node row ≡ 0 → ⊥) → stepOf p code node row .row ≡ row
-step-left p code node row h = step-leaves p code node row ∙ rw (ne-eqb (stepNumber p code node row) 0 h)
+step-left : (p : List ℕ) (code node : ℕ) (row : List ℕ) → (eventNumber p code node row ≡ 0 → ⊥) → stepOf p code node row .row ≡ row
+step-left p code node row h = step-leaves p code node row ∙ rw (ne-eqb (eventNumber p code node row) 0 h)
 
-hear-leaves : (p : List ℕ) (code node : ℕ) (row : List ℕ) → (hearNumber p code node row ≡ 0 → ⊥) → hearOf p code node row .row ≡ row
-unfolding hearOf
+hear-leaves : (p : List ℕ) (code node : ℕ) (row : List ℕ) → (messageNumber p code node row ≡ 0 → ⊥) → hearOf p code node row .row ≡ row
+unfolding hearOf reportOf
 hear-leaves p code node row =
     let n = stepInvalid p code node row in
-    tested (λ (s : Told). s .number) (λ s. s .row ≡ row) n (told row n) (told (hear row code node) 0) refl (λ e. refl)
+    tested (λ (s : Stepped). verdictNumber (s .verdict)) (λ s. s .row ≡ row) n (stepped row (verdict.Refused (Invalid n))) (stepped (hear row code node) verdict.Heard) refl (λ e. refl)
 
 simulate-leaves : (p : List ℕ) (code node q : ℕ) (st : List ℕ) → (simulateNumber p code node q st ≡ 0 → ⊥) → simulateOf p code node q st .state ≡ st
 unfolding simulateOf
@@ -88,11 +91,11 @@ module _ (m k : List ℕ) where
   both s = (s .marks ≡ m) × (s .notes ≡ k)
 
   central-leaves : (p : List ℕ) (code node : ℕ) → (ruleNumber p code node m k ≡ 0 → ⊥) → (ruleOf p code node m k .marks ≡ m) × (ruleOf p code node m k .notes ≡ k)
-  unfolding ruleOf decide rulingNumber
+  unfolding ruleOf ruleOn rulingNumber
   central-leaves p code node =
       let n = ruleInvalid p code node m k in
       let e = eventOf code node in
-      tested ruling-is both n (ruled m k (ruling.Refused n)) (decide p e m k) (refl, refl)
+      tested ruling-is both n (ruled m k (ruling.Refused n)) (ruleOn p e m k) (refl, refl)
       (λ z. choice (λ s. ruling-is s ≡ 0) (allowed p (stateOf m k) e) (ruled (marksAfter (e .code) (e .node) m) (notesAfter (e .code) (e .node) k) ruling.Allowed) (ruled m k ruling.Forbidden)
       (λ h. refl) (λ h. refl))
 
@@ -100,10 +103,10 @@ module _ (m k : List ℕ) where
 pass-leaves : (p a m : List ℕ) → (passInto p a m .number ≡ 0 → ⊥) → passInto p a m .marks ≡ m
 unfolding passInto
 pass-leaves p a m =
-    let x = passed (passNumber p a m) m in
-    let y = passed (pass p a .number) m in
-    refusal (λ (r : Passed). r .number) (λ r. r .marks ≡ m) (passNumber p a m) x (cond (not (eqb (pass p a .number) 0)) y (pass p a)) refl
-    (λ e. tested (λ (r : Passed). r .number) (λ r. r .marks ≡ m) (pass p a .number) y (pass p a) refl (λ z. z))
+    let x = passResult (passNumber p a m) m in
+    let y = passResult (pass p a .number) m in
+    refusal (λ (r : PassResult). r .number) (λ r. r .marks ≡ m) (passNumber p a m) x (cond (not (eqb (pass p a .number) 0)) y (pass p a)) refl
+    (λ e. tested (λ (r : PassResult). r .number) (λ r. r .marks ≡ m) (pass p a .number) y (pass p a) refl (λ z. z))
 
 -- a record, and a list of steps
 module _ (m c : List ℕ) where
@@ -115,13 +118,13 @@ module _ (m c : List ℕ) where
   unfolding passRecordInto
   pass-record-leaves p tab a =
       let n = passRecordNumber p tab a m c in
-      tested (λ (r : Recorded). r .number) buffers n (recorded n m c) (in-both (recordOf p tab (pass p a .marks))) (refl, refl) (λ e. refl)
+      tested (λ (r : Recorded). r .number) buffers n (recorded n m c) (classed (recordOf p tab (pass p a .marks))) (refl, refl) (λ e. refl)
 
   record-leaves : (p tab st : List ℕ) → (recordByInto p tab st m c .number ≡ 0 → ⊥) → (recordByInto p tab st m c .marks ≡ m) × (recordByInto p tab st m c .classes ≡ c)
   unfolding recordByInto
   record-leaves p tab st =
       let n = recordByNumber p tab st m c in
-      tested (λ (r : Recorded). r .number) buffers n (recorded n m c) (in-both (recordOf p tab (endMarks p (own p) st))) (refl, refl) (λ e. refl)
+      tested (λ (r : Recorded). r .number) buffers n (recorded n m c) (classed (recordOf p tab (endMarks p (own p) st))) (refl, refl) (λ e. refl)
 
 run-leaves : (p bs st ns : List ℕ) → (runOf p bs st ns .number ≡ 0 → ⊥) → (runOf p bs st ns .state ≡ st) × (runOf p bs st ns .numbers ≡ ns)
 unfolding runOf
@@ -130,9 +133,22 @@ run-leaves p bs st ns =
     tested (λ (r : Ran). r .number) (λ r. (r .state ≡ st) × (r .numbers ≡ ns)) n (ran n st ns)
     (ran 0 (replayFrom p (own p) st (stepsOf bs)) (numbersFrom p (own p) st (stepsOf bs))) (refl, refl) (λ e. refl)
 
-text-leaves : (t b : List ℕ) → length b < 16384 → (rehearseInto t b .place ≡ 0) × (rehearseInto t b .buffer ≡ b)
+-- a text: its number, then its room
+text-leaves : (t b : List ℕ) → (runTextInto t b .result .number ≡ 0 → ⊥) → runTextInto t b .out ≡ b
+unfolding runTextInto linesInto
+text-leaves t b =
+    let n = textNumber t in
+    let ls = textLines t in
+    let short = textRun (refused 7) b in
+    let long = textRun (textDone (length ls)) (ls ++ drop (length ls) b) in
+    let answer : TextRun → ℕ = λ r. r .result .number in
+    let kept : TextRun → Type 0 = λ r. r .out ≡ b in
+    refusal answer kept n (textRun (refused n) b) (cond (ltb (length b) 16384) short long) refl
+    (λ e. choice (λ r. (answer r ≡ 0 → ⊥) → kept r) (ltb (length b) 16384) short long (λ e n. refl) (λ e n. absurd (n refl)))
+
+printing-leaves : (t b : List ℕ) → length b < 16384 → (rehearseInto t b .place ≡ 0) × (rehearseInto t b .buffer ≡ b)
 unfolding rehearseInto
-text-leaves t b l = rw (lt-ltb (length b) 16384 l) (refl, refl)
+printing-leaves t b l = rw (lt-ltb (length b) 16384 l) (refl, refl)
 
 pub refusals-leave : RefusalsLeave
 refusals-leave = record {
@@ -149,4 +165,5 @@ refusals-leave = record {
   end-record-by = λ p tab st m c. record-leaves m c p tab st;
   run = run-leaves;
   text = text-leaves;
+  printing = printing-leaves;
 }

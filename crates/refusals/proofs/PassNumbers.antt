@@ -6,7 +6,7 @@ use native.Mathlib.Omega.{arith}
 use lib.Dec.{eqb}
 use lib.ListN.{getD}
 use Rattle.plan.specs.Plan.{Kind, task, serial, and, or, xor, contingency, conditional, waiting, kind, children}
-use Rattle.pass.specs.Pass.{Outcome, works, breaks, fault, Tally, oneOrTwo, badAnswer, badPick, closes, goes, skip, note, ending, endOf, Settled, Walked, nothing, unwalked, noted, meetBy, meet, walk, close, settleIf, settleBy, settle, numberOf, passOf, pass}
+use Rattle.pass.specs.Pass.{Outcome, works, breaks, fault, Tally, oneOrTwo, badAnswer, badPick, closes, goes, skip, note, ending, endOf, Settled, Walked, nothing, unwalked, childSettled, meetBy, meet, walk, close, settleIf, settleBy, settle, numberOf, passOf, pass}
 use Rattle.refusals.specs.Claim.{Later}
 use Rattle.refusals.proofs.ChoiceLaws.{choice}
 
@@ -54,7 +54,7 @@ note-later a t (fault n) h k = k
 -- a block whose children's numbers are fine
 module _ (f : ℕ → List ℕ → Settled) (fine : (c : ℕ) (m : List ℕ) → Fine (f c m .outcome)) (k : Kind) (a : ℕ) where
   met-later : (b : Bool) (w : Walked) (c : ℕ) → Later (w .tally .wrong) → Later (meetBy b f k a w c .tally .wrong)
-  unfolding meetBy noted skip
+  unfolding meetBy childSettled skip
   met-later true w c h = note-later a (w .tally) (f c (w .marks) .outcome) h (fine c (w .marks))
   met-later false w c h = h
 

@@ -22,22 +22,21 @@ use Rattle.guard.specs.Rule.{ruleByte}
 use Rattle.guard.specs.Bytes.{encode}
 use Rattle.writer.specs.Written.{Filled, filled, writtenNumber, fitted, writeOf}
 use Rattle.writer.specs.declared.Written.the-variants.{Refused}
-use Rattle.site.specs.Verdict.{verdictNumber, refusalNumber}
-use Rattle.site.specs.Step.{Stepped, stepped, Told, told, stepInvalid, decide, stepOf, hearOf}
+use Rattle.site.specs.Verdict.{reportOf, verdictNumber}
+use Rattle.site.specs.Step.{Stepped, stepped, stepInvalid, decide, stepOf, hearOf}
 use Rattle.site.specs.declared.Refusal.the-variants.{Invalid}
 use Rattle.site.specs.declared.Verdict.the-variants as verdict
 use Rattle.site.proofs.StepLaws.{decision-10, decision-11, decision-0}
 use Rattle.row.specs.Row.{heard, hear}
 use Rattle.central.specs.Central.{allowed}
-use Rattle.central.specs.Rule.{Ruled, ruled, rulingNumber, rightSize, stateOf, ruleInvalid, marksAfter, notesAfter, ruleOf}
-use Rattle.central.specs.Rule.{decide as decided-by}
+use Rattle.central.specs.Rule.{Ruled, ruled, rulingNumber, rightSize, stateOf, ruleInvalid, marksAfter, notesAfter, ruleOn, ruleOf}
 use Rattle.central.specs.declared.Ruling.the-variants as ruling
-use Rattle.pass.specs.Pass.{Passed, passed, pass, passNumber, passInto}
-use Rattle.retention.specs.Record.{commonTable, frameOk, tableOk, tableNumber, Record, recordOf, Recorded, recorded, written}
+use Rattle.pass.specs.Pass.{PassResult, passResult, pass, passNumber, passInto}
+use Rattle.retention.specs.Record.{commonTable, frameOk, tableOk, tableNumber, Record, recordOf, Recorded, recorded, classed}
 use Rattle.pass_record.specs.PassRecord.{lentNumber, passRecordNumber, passRecordInto}
 use Rattle.job.specs.Simulation.{stateFits, endMarks}
 use Rattle.simulation.specs.Run.{recordNumber, recordByNumber, recordInto, recordByInto, runNumber, runOf}
-use Rattle.refusals.specs.Claim.{Later, stepNumber, hearNumber, guardNumber, ruleNumber}
+use Rattle.refusals.specs.Claim.{Later, eventNumber, messageNumber, guardNumber, ruleNumber}
 use Rattle.refusals.proofs.ChoiceLaws.{choice}
 use Rattle.refusals.proofs.PassNumbers.{none-later, pass-later}
 
@@ -85,8 +84,8 @@ module _ (p : List ℕ) (ok : Accepted p) where
     unfolding stepInvalid
     test-later = invalid-later (eqb (length row) (size p)) true code node (one row long)
 
-    pub step-later : Later (stepNumber p code node row)
-    unfolding stepOf decide verdictNumber refusalNumber
+    pub step-later : Later (eventNumber p code node row)
+    unfolding stepOf decide reportOf
     step-later =
         let n = stepInvalid p code node row in
         let P : Stepped → Type 0 = λ s. Later (verdictNumber (s .verdict)) in
@@ -95,19 +94,19 @@ module _ (p : List ℕ) (ok : Accepted p) where
         (cond (not (holds (heard row) (guard p (eventOf code node)))) (decision-11 p code node row) (decision-0 p code node row)) (λ e l. omega arith)
         (λ e. choice P (not (holds (heard row) (guard p (eventOf code node)))) (decision-11 p code node row) (decision-0 p code node row) (λ e l. omega arith) (λ e. none-later)))
 
-    pub hear-later : Later (hearNumber p code node row)
-    unfolding hearOf
+    pub hear-later : Later (messageNumber p code node row)
+    unfolding hearOf reportOf
     hear-later =
         let n = stepInvalid p code node row in
-        choice (λ (s : Told). Later (s .number)) (not (eqb n 0)) (told row n) (told (hear row code node) 0) (λ e. test-later) (λ e. none-later)
+        choice (λ (s : Stepped). Later (verdictNumber (s .verdict))) (not (eqb n 0)) (stepped row (verdict.Refused (Invalid n))) (stepped (hear row code node) verdict.Heard) (λ e. test-later) (λ e. none-later)
 
   pub central-later : (code node : ℕ) (m k : List ℕ) → length m ≡ size p → length k ≡ size p → Later (ruleNumber p code node m k)
-  unfolding ruleOf ruleInvalid rightSize decided-by rulingNumber
+  unfolding ruleOf ruleInvalid rightSize ruleOn rulingNumber
   central-later code node m k lm lk =
       let n = ruleInvalid p code node m k in
       let e = eventOf code node in
       let P : Ruled → Type 0 = λ s. Later (rulingNumber (s .ruling)) in
-      choice P (not (eqb n 0)) (ruled m k (ruling.Refused n)) (decided-by p e m k)
+      choice P (not (eqb n 0)) (ruled m k (ruling.Refused n)) (ruleOn p e m k)
       (λ z. invalid-later (rightSize p m k) true code node (and-join _ _ (one m lm) (one k lk)))
       (λ z. choice P (allowed p (stateOf m k) e) (ruled (marksAfter (e .code) (e .node) m) (notesAfter (e .code) (e .node) k) ruling.Allowed) (ruled m k ruling.Forbidden)
       (λ h. none-later) (λ h. none-later))
@@ -116,15 +115,15 @@ module _ (p : List ℕ) (ok : Accepted p) where
   unfolding passInto passNumber
   pass-passes a m la lm =
       rw (fit (eqb (length a) (size p) && eqb (length m) (size p)) (and-join _ _ (one a la) (one m lm)))
-      (choice (λ (r : Passed). Later (r .number)) (not (eqb (pass p a .number) 0)) (passed (pass p a .number) m) (pass p a) (λ e. pass-later p a) (λ e. pass-later p a))
+      (choice (λ (r : PassResult). Later (r .number)) (not (eqb (pass p a .number) 0)) (passResult (pass p a .number) m) (pass p a) (λ e. pass-later p a) (λ e. pass-later p a))
 
   -- a table's number, and a later one behind it
   behind-table : (tab : List ℕ) (n : ℕ) → Later n → Later (cond (not (eqb (tableNumber tab) 0)) (tableNumber tab) n)
   behind-table tab n h = choice Later (not (eqb (tableNumber tab) 0)) (tableNumber tab) n (λ e. table-later tab) (λ e. h)
 
   -- a record that is refused with a later number n, or r
-  recorded-later : (n : ℕ) (m c : List ℕ) (r : Record) → Later n → Later (cond (not (eqb n 0)) (recorded n m c) (written r) .number)
-  recorded-later n m c r h = choice (λ (s : Recorded). Later (s .number)) (not (eqb n 0)) (recorded n m c) (written r) (λ e. h) (λ e. none-later)
+  recorded-later : (n : ℕ) (m c : List ℕ) (r : Record) → Later n → Later (cond (not (eqb n 0)) (recorded n m c) (classed r) .number)
+  recorded-later n m c r h = choice (λ (s : Recorded). Later (s .number)) (not (eqb n 0)) (recorded n m c) (classed r) (λ e. h) (λ e. none-later)
 
   pub pass-record-passes : (tab a m c : List ℕ) → length a ≡ size p → length m ≡ size p → length c ≡ size p → Later (passRecordInto p tab a m c .number)
   unfolding passRecordInto passRecordNumber lentNumber

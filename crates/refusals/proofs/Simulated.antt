@@ -16,16 +16,21 @@ use Rattle.event.specs.Valid.{invalid}
 use Rattle.event.proofs.ValidLaws.{valid}
 use Rattle.event.proofs.HostLaws.{host-in}
 use Rattle.row.specs.Row.{heard, hear}
-use Rattle.job.specs.Simulation.{rowOf, withRow, Step, event, message, stepFrom, Reply, reply, stateFits, eventBy, happen, tell, simulate}
+use Rattle.site.specs.Verdict.{reportOf, verdictNumber}
+use Rattle.site.specs.declared.Refusal.the-variants.{Invalid, Untrue}
+use Rattle.site.specs.declared.Verdict.the-variants.{Heard, Refused}
+use Rattle.job.specs.Simulation.{rowOf, withRow, Step, event, message, stepFrom, Simulated, simulated, verdictAt, stateFits, eventBy, happen, tell, simulate}
 use Rattle.job.proofs.StateLaws.{row-length}
+use Rattle.job.proofs.StepLaws.{number-at-site}
+use Rattle.site.specs.Step.{stepOf}
 use Rattle.simulation.specs.Run.{simulateOf}
 use Rattle.refusals.specs.Claim.{Later, simulateNumber}
 use Rattle.refusals.proofs.ChoiceLaws.{choice}
 use Rattle.refusals.proofs.PassNumbers.{none-later}
 use Rattle.refusals.proofs.Passes.{invalid-later, step-later}
 
-abbrev Fine : Reply → Type 0
-Fine r = Later (r .number)
+abbrev Fine : Simulated → Type 0
+Fine r = Later (verdictNumber (r .verdict))
 
 module _ (p : List ℕ) (ok : Accepted p) (st : List ℕ) (long : length st ≡ size p * size p) where
   fits : stateFits p (own p) st ≡ true
@@ -38,24 +43,24 @@ module _ (p : List ℕ) (ok : Accepted p) (st : List ℕ) (long : length st ≡ 
   site-in code node z = host-in p ok (eventOf code node) (valid p (stateFits p (own p) st) true code node z .applied)
 
   happen-later : (code node : ℕ) → Fine (happen p (own p) st code node)
-  unfolding happen eventBy
+  unfolding happen eventBy reportOf
   happen-later code node =
       let n = invalid p (stateFits p (own p) st) true code node in
       let q = siteOf p (own p) (eventOf code node) in
       cases (decided (eqb n 0))
-      (λ z. rw z (step-later p ok code node (rowOf p st q) (row-length p st (size p) q long (site-in code node (eqb-true n 0 z)))))
+      (λ z. rw (z, number-at-site q (stepOf p code node (rowOf p st q) .verdict)) (step-later p ok code node (rowOf p st q) (row-length p st (size p) q long (site-in code node (eqb-true n 0 z)))))
       (λ z. rw z (invalid-later p ok (stateFits p (own p) st) true code node fits))
 
   tell-later : (code node q : ℕ) → Fine (tell p (own p) st code node q)
-  unfolding tell
+  unfolding tell reportOf
   tell-later code node q =
       let b = ltb q (own p .rows) in
       let n = invalid p (stateFits p (own p) st) b code node in
       let e = eventOf code node in
-      let done = reply 0 0 0 (withRow p st q (hear (rowOf p st q) code node)) in
-      choice Fine (not (eqb n 0)) (reply n 0 0 st) (cond (not (heard (rowOf p st (siteOf p (own p) e)) e)) (reply 12 0 0 st) done)
+      let done = simulated (withRow p st q (hear (rowOf p st q) code node)) Heard in
+      choice Fine (not (eqb n 0)) (simulated st (Refused (Invalid n))) (cond (not (heard (rowOf p st (siteOf p (own p) e)) e)) (simulated st (Refused Untrue)) done)
       (λ z. invalid-later p ok (stateFits p (own p) st) b code node fits)
-      (λ z. choice Fine (not (heard (rowOf p st (siteOf p (own p) e)) e)) (reply 12 0 0 st) done (λ h l. omega arith) (λ h. none-later))
+      (λ z. choice Fine (not (heard (rowOf p st (siteOf p (own p) e)) e)) (simulated st (Refused Untrue)) done (λ h l. omega arith) (λ h. none-later))
 
   step-by : (t : Step) → Fine (simulate p (own p) st t)
   unfolding simulate

@@ -18,17 +18,17 @@ use Rattle.central.specs.Rule.{rulingNumber, ruleOf}
 use Rattle.pass.specs.Pass.{passInto}
 use Rattle.pass_record.specs.PassRecord.{passRecordInto}
 use Rattle.simulation.specs.Run.{simulateOf, recordInto, recordByInto, runOf}
-use Rattle.script.specs.Script.{rehearseInto}
+use Rattle.script.specs.Script.{rehearseInto, runTextInto}
 
--- H8 to H12: the number of the answer to an event, a message and a step of a simulation
-abbrev pub stepNumber : List ℕ → ℕ → ℕ → List ℕ → ℕ
-stepNumber p code node row = verdictNumber (stepOf p code node row .verdict)
+-- H8 to H12: the number of the answer to an event, to a message, and to a step of a simulation
+abbrev pub eventNumber : List ℕ → ℕ → ℕ → List ℕ → ℕ
+eventNumber p code node row = verdictNumber (stepOf p code node row .verdict)
 
-abbrev pub hearNumber : List ℕ → ℕ → ℕ → List ℕ → ℕ
-hearNumber p code node row = hearOf p code node row .number
+abbrev pub messageNumber : List ℕ → ℕ → ℕ → List ℕ → ℕ
+messageNumber p code node row = verdictNumber (hearOf p code node row .verdict)
 
 abbrev pub simulateNumber : List ℕ → ℕ → ℕ → ℕ → List ℕ → ℕ
-simulateNumber p code node q st = simulateOf p code node q st .number
+simulateNumber p code node q st = verdictNumber (simulateOf p code node q st .verdict)
 
 -- H8, H18: and of the guard writer and the central rule
 abbrev pub guardNumber : List ℕ → ℕ → ℕ → List ℕ → ℕ
@@ -46,9 +46,9 @@ pub record RefusalsLeave : Type 0 where
   -- vulcedar_guard
   pub guarded : (p : List ℕ) (code node : ℕ) (b : List ℕ) → (guardNumber p code node b ≡ 0 → ⊥) → writeOf p code node b .buffer ≡ b
   -- vulcedar_step
-  pub step : (p : List ℕ) (code node : ℕ) (row : List ℕ) → (stepNumber p code node row ≡ 0 → ⊥) → stepOf p code node row .row ≡ row
+  pub step : (p : List ℕ) (code node : ℕ) (row : List ℕ) → (eventNumber p code node row ≡ 0 → ⊥) → stepOf p code node row .row ≡ row
   -- vulcedar_hear
-  pub hear : (p : List ℕ) (code node : ℕ) (row : List ℕ) → (hearNumber p code node row ≡ 0 → ⊥) → hearOf p code node row .row ≡ row
+  pub hear : (p : List ℕ) (code node : ℕ) (row : List ℕ) → (messageNumber p code node row ≡ 0 → ⊥) → hearOf p code node row .row ≡ row
   -- vulcedar_simulate
   pub simulate : (p : List ℕ) (code node q : ℕ) (st : List ℕ) → (simulateNumber p code node q st ≡ 0 → ⊥) → simulateOf p code node q st .state ≡ st
   -- vulcedar_central
@@ -66,8 +66,10 @@ pub record RefusalsLeave : Type 0 where
       (recordByInto p tab st m c .marks ≡ m) × (recordByInto p tab st m c .classes ≡ c)
   -- a list of steps in frames, which no C function has
   pub run : (p bs st ns : List ℕ) → (runOf p bs st ns .number ≡ 0 → ⊥) → (runOf p bs st ns .state ≡ st) × (runOf p bs st ns .numbers ≡ ns)
-  -- a text, which no C function has: a buffer that is too short
-  pub text : (t b : List ℕ) → length b < 16384 → (rehearseInto t b .place ≡ 0) × (rehearseInto t b .buffer ≡ b)
+  -- vulcedar_rehearse
+  pub text : (t b : List ℕ) → (runTextInto t b .result .number ≡ 0 → ⊥) → runTextInto t b .out ≡ b
+  -- the text's function for the program, which prints a refusal's number too: a buffer that is too short
+  pub printing : (t b : List ℕ) → length b < 16384 → (rehearseInto t b .place ≡ 0) × (rehearseInto t b .buffer ≡ b)
 
 -- H0: 0, or a number behind 7
 abbrev pub Later : ℕ → Type 0
@@ -82,9 +84,9 @@ pub record AcceptedPass (p : List ℕ) : Type 0 where
   -- vulcedar_guard
   pub guarded : (code node : ℕ) (b : List ℕ) → length (encode (guard p (eventOf code node))) ≤ length b → Later (guardNumber p code node b)
   -- vulcedar_step
-  pub step : (code node : ℕ) (row : List ℕ) → length row ≡ size p → Later (stepNumber p code node row)
+  pub step : (code node : ℕ) (row : List ℕ) → length row ≡ size p → Later (eventNumber p code node row)
   -- vulcedar_hear
-  pub hear : (code node : ℕ) (row : List ℕ) → length row ≡ size p → Later (hearNumber p code node row)
+  pub hear : (code node : ℕ) (row : List ℕ) → length row ≡ size p → Later (messageNumber p code node row)
   -- vulcedar_simulate
   pub simulate : (code node q : ℕ) (st : List ℕ) → length st ≡ size p * size p → Later (simulateNumber p code node q st)
   -- vulcedar_central
