@@ -11,7 +11,7 @@ use Rattle.plan.specs.Plan.{size}
 use Rattle.plan.specs.Check.{fitNumber}
 use Rattle.plan.proofs.FitLaws.{fit-none}
 use Rattle.plan.proofs.Main.{fit-exact}
-use Rattle.pass.specs.Pass.{Passed, passed, pass, passNumber, passInto}
+use Rattle.pass.specs.Pass.{PassResult, passResult, pass, passNumber, passInto}
 use Rattle.retention.specs.Record.{tableNumber, recordOf, Recorded, recorded, classesInto}
 use Rattle.retention.proofs.RecordLaws.{classes-are}
 use Rattle.pass_record.specs.PassRecord.{lentNumber, passRecordNumber, passRecordInto}
@@ -47,7 +47,7 @@ module _ (p tab a m c : List ℕ) where
       few z = (fit-exact p _ .none .0 z) .0 .few
 
       -- what the pass answered and left, and its classes
-      abbrev classed : Passed → Recorded
+      abbrev classed : PassResult → Recorded
       classed s = recorded (s .number) (s .marks) (cond (not (eqb (s .number) 0)) c (classesInto p tab (s .marks) c))
 
       by-pass : passRecordInto p tab a m c ≡ classed (passInto p a m)
@@ -59,7 +59,7 @@ module _ (p tab a m c : List ℕ) where
           (λ z. rw (right, same, z, z) refl)
 
       -- the pass answered r and left the marks m′
-      module _ (r : ℕ) (m′ : List ℕ) (h : passInto p a m ≡ passed r m′) where
+      module _ (r : ℕ) (m′ : List ℕ) (h : passInto p a m ≡ passResult r m′) where
         pub pass-refused : (r ≡ 0 → ⊥) → passRecordInto p tab a m c ≡ recorded r m′ c
         pass-refused n = by-pass ∙ ap classed h ∙ rw (ne-eqb r 0 n)
 

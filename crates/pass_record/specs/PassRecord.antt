@@ -7,7 +7,7 @@ use lib.ListN.{length}
 use Rattle.plan.specs.Plan.{size}
 use Rattle.plan.specs.Check.{fitNumber}
 use Rattle.pass.specs.Pass.{pass}
-use Rattle.retention.specs.Record.{tableNumber, recordOf, Recorded, recorded, classed}
+use Rattle.retention.specs.Record.{tableNumber, recordOf, Recorded, recorded, recordedAs}
 
 -- H1 to H7: the plan's number, then 7 where answers, marks or classes are not one byte a node
 unfoldable pub lentNumber : List ℕ → List ℕ → List ℕ → List ℕ → ℕ
@@ -20,8 +20,8 @@ passRecordNumber p tab a m c =
     (cond (not (eqb (lentNumber p a m c) 0)) (lentNumber p a m c)
     (pass p a .number))
 
--- G3: the pass's marks, classed by the table; a refused call leaves marks and classes
+-- G3: the pass's marks, recordedAs by the table; a refused call leaves marks and classes
 unfoldable pub passRecordInto : List ℕ → List ℕ → List ℕ → List ℕ → List ℕ → Recorded
 passRecordInto p tab a m c =
     cond (not (eqb (passRecordNumber p tab a m c) 0)) (recorded (passRecordNumber p tab a m c) m c)
-    (classed (recordOf p tab (pass p a .marks)))
+    (recordedAs (recordOf p tab (pass p a .marks)))

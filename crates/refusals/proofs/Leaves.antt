@@ -28,7 +28,7 @@ use Rattle.central.specs.Central.{allowed}
 use Rattle.central.specs.Rule.{Ruled, ruled, rulingNumber, stateOf, ruleInvalid, marksAfter, notesAfter, ruleOn, ruleOf}
 use Rattle.central.specs.declared.Ruling.the-variants as ruling
 use Rattle.pass.specs.Pass.{PassResult, passResult, pass, passNumber, passInto}
-use Rattle.retention.specs.Record.{commonTable, recordOf, Recorded, recorded, classed}
+use Rattle.retention.specs.Record.{commonTable, recordOf, Recorded, recorded, recordedAs}
 use Rattle.pass_record.specs.PassRecord.{passRecordNumber, passRecordInto}
 use Rattle.job.specs.Simulation.{stepFrom, replayFrom, numbersFrom, endMarks}
 use Rattle.job.proofs.StepLaws.{refused-leaves}
@@ -118,13 +118,13 @@ module _ (m c : List ℕ) where
   unfolding passRecordInto
   pass-record-leaves p tab a =
       let n = passRecordNumber p tab a m c in
-      tested (λ (r : Recorded). r .number) buffers n (recorded n m c) (classed (recordOf p tab (pass p a .marks))) (refl, refl) (λ e. refl)
+      tested (λ (r : Recorded). r .number) buffers n (recorded n m c) (recordedAs (recordOf p tab (pass p a .marks))) (refl, refl) (λ e. refl)
 
   record-leaves : (p tab st : List ℕ) → (recordByInto p tab st m c .number ≡ 0 → ⊥) → (recordByInto p tab st m c .marks ≡ m) × (recordByInto p tab st m c .classes ≡ c)
   unfolding recordByInto
   record-leaves p tab st =
       let n = recordByNumber p tab st m c in
-      tested (λ (r : Recorded). r .number) buffers n (recorded n m c) (classed (recordOf p tab (endMarks p (own p) st))) (refl, refl) (λ e. refl)
+      tested (λ (r : Recorded). r .number) buffers n (recorded n m c) (recordedAs (recordOf p tab (endMarks p (own p) st))) (refl, refl) (λ e. refl)
 
 run-leaves : (p bs st ns : List ℕ) → (runOf p bs st ns .number ≡ 0 → ⊥) → (runOf p bs st ns .state ≡ st) × (runOf p bs st ns .numbers ≡ ns)
 unfolding runOf

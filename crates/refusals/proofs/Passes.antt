@@ -32,7 +32,7 @@ use Rattle.central.specs.Central.{allowed}
 use Rattle.central.specs.Rule.{Ruled, ruled, rulingNumber, rightSize, stateOf, ruleInvalid, marksAfter, notesAfter, ruleOn, ruleOf}
 use Rattle.central.specs.declared.Ruling.the-variants as ruling
 use Rattle.pass.specs.Pass.{PassResult, passResult, pass, passNumber, passInto}
-use Rattle.retention.specs.Record.{commonTable, frameOk, tableOk, tableNumber, Record, recordOf, Recorded, recorded, classed}
+use Rattle.retention.specs.Record.{commonTable, frameOk, tableOk, tableNumber, Record, recordOf, Recorded, recorded, recordedAs}
 use Rattle.pass_record.specs.PassRecord.{lentNumber, passRecordNumber, passRecordInto}
 use Rattle.job.specs.Simulation.{stateFits, endMarks}
 use Rattle.simulation.specs.Run.{recordNumber, recordByNumber, recordInto, recordByInto, runNumber, runOf}
@@ -122,8 +122,8 @@ module _ (p : List ℕ) (ok : Accepted p) where
   behind-table tab n h = choice Later (not (eqb (tableNumber tab) 0)) (tableNumber tab) n (λ e. table-later tab) (λ e. h)
 
   -- a record that is refused with a later number n, or r
-  recorded-later : (n : ℕ) (m c : List ℕ) (r : Record) → Later n → Later (cond (not (eqb n 0)) (recorded n m c) (classed r) .number)
-  recorded-later n m c r h = choice (λ (s : Recorded). Later (s .number)) (not (eqb n 0)) (recorded n m c) (classed r) (λ e. h) (λ e. none-later)
+  recorded-later : (n : ℕ) (m c : List ℕ) (r : Record) → Later n → Later (cond (not (eqb n 0)) (recorded n m c) (recordedAs r) .number)
+  recorded-later n m c r h = choice (λ (s : Recorded). Later (s .number)) (not (eqb n 0)) (recorded n m c) (recordedAs r) (λ e. h) (λ e. none-later)
 
   pub pass-record-passes : (tab a m c : List ℕ) → length a ≡ size p → length m ≡ size p → length c ≡ size p → Later (passRecordInto p tab a m c .number)
   unfolding passRecordInto passRecordNumber lentNumber

@@ -78,5 +78,5 @@ abbrev pub recorded : ℕ → List ℕ → List ℕ → Recorded
 recorded n m c = record { number = n; marks = m; classes = c }
 
 -- G3: the record in both buffers
-abbrev pub classed : Record → Recorded
-classed r = recorded 0 (r .marks) (r .classes)
+abbrev pub recordedAs : Record → Recorded
+recordedAs r = recorded 0 (r .marks) (r .classes)

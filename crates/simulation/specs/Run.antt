@@ -12,7 +12,7 @@ use Rattle.event.specs.Event.{eventOf}
 use Rattle.event.specs.Site.{own, siteOf}
 use Rattle.event.specs.Bit.{hasBit}
 use Rattle.event.specs.Valid.{invalid}
-use Rattle.retention.specs.Record.{commonTable, tableNumber, recordOf, Recorded, recorded, classed}
+use Rattle.retention.specs.Record.{commonTable, tableNumber, recordOf, Recorded, recorded, recordedAs}
 use Rattle.job.specs.Simulation.{Step, stepFrom, Simulated, simulate, stateFits, replayFrom, numbersFrom, endMarks}
 
 -- q is the row of the event's site in a state of len bytes; a q that is no row of the plan says that the call is not valid
@@ -40,7 +40,7 @@ recordByNumber p tab st m c = cond (not (eqb (tableNumber tab) 0)) (tableNumber 
 unfoldable pub recordByInto : List ℕ → List ℕ → List ℕ → List ℕ → List ℕ → Recorded
 recordByInto p tab st m c =
     cond (not (eqb (recordByNumber p tab st m c) 0)) (recorded (recordByNumber p tab st m c) m c)
-    (classed (recordOf p tab (endMarks p (own p) st)))
+    (recordedAs (recordOf p tab (endMarks p (own p) st)))
 
 -- G1: without a table, by the common one
 abbrev pub recordInto : List ℕ → List ℕ → List ℕ → List ℕ → Recorded
