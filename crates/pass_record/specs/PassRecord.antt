@@ -20,7 +20,7 @@ passRecordNumber p tab a m c =
     (cond (not (eqb (lentNumber p a m c) 0)) (lentNumber p a m c)
     (pass p a .number))
 
--- G3: the pass's marks, recordedAs by the table; a refused call leaves marks and classes
+-- G3: the pass's marks, classed by the table; a refused call leaves marks and classes
 unfoldable pub passRecordInto : List ℕ → List ℕ → List ℕ → List ℕ → List ℕ → Recorded
 passRecordInto p tab a m c =
     cond (not (eqb (passRecordNumber p tab a m c) 0)) (recorded (passRecordNumber p tab a m c) m c)
