@@ -5,9 +5,8 @@ use Rattle.writer.specs.declared.Written.{Written}
 use Rattle.writer.specs.Written.{writtenNumber, writtenRule, writtenLength}
 use Rattle.site.specs.Verdict.{verdictNumber, verdictSite, verdictRule}
 use Rattle.site.specs.declared.Verdict.{Verdict}
-use Rattle.central.specs.Rule.{rulingNumber}
+use Rattle.central.specs.Rule.{rulingNumber, rulingValue}
 use Rattle.central.specs.declared.Ruling.{Ruling}
-use Rattle.central.specs.declared.Ruling.the-variants as ruling
 
 -- K4: 1.0.0, as 65536 times its first number, 256 times its second, and its third
 unfoldable pub version : ℕ
@@ -29,12 +28,6 @@ ofNamed r = result (r .number) 0 (r .rule)
 unfoldable pub ofVerdict : Verdict → ℕ
 ofVerdict v = result (verdictNumber v) (verdictSite v) (verdictRule v)
 
--- K2: allowed is the value 1
-unfoldable pub rulingValue : Ruling → ℕ
-rulingValue ruling.Allowed = 1
-rulingValue ruling.Forbidden = 0
-rulingValue (ruling.Refused n) = 0
-
--- K1, K2: a ruling's number and value
+-- K1, K2: a ruling's number, and its value, 1 where the event is allowed
 unfoldable pub ofRuling : Ruling → ℕ
 ofRuling r = result (rulingNumber r) 0 (rulingValue r)
