@@ -39,11 +39,11 @@ filled b w = record { buffer = b; answer = w }
 abbrev pub written : ℕ → ℕ → WrittenGuard
 written n r = record { length = n; rule = r }
 
--- x, with its rule, at the front of b, if there is room for it
+-- H7, H18: x, with its rule, at the front of b, if there is room for it
 unfoldable pub fitted : List ℕ → ℕ → List ℕ → Filled
 fitted x rule b = cond (not (leb (length x) (length b))) (filled b (Refused 7)) (filled (x ++ drop (length x) b) (Done (written (length x) rule)))
 
--- 1 to 6, 8, 9, then 7
+-- H0: 1 to 6, 8, 9, then 7
 unfoldable pub writeOf : List ℕ → ℕ → ℕ → List ℕ → Filled
 writeOf p code node b =
     cond (not (eqb (invalid p true true code node) 0)) (filled b (Refused (invalid p true true code node)))
