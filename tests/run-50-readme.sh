@@ -10,7 +10,7 @@ mkdir "$clone"
 if [ -e .git ] && command -v git > /dev/null; then git ls-files; else find . -type f ! -path './target/*' ! -path './.git/*'; fi > "$work/files"
 tar -cf - -T "$work/files" | tar -xf - -C "$clone"
 mkdir "$clone/target"
-cp -a target/rlib target/stamp "$clone/target/"
+for proved in target/rlib target/stamp; do [ ! -d "$proved" ] || cp -a "$proved" "$clone/target/"; done
 
 # the blocks, one a file, in order: 01.sh 02.text ..
 awk -v to="$work" '
