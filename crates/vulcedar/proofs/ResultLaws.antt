@@ -1,4 +1,4 @@
--- The guard writer's answer and a ruling, as results. Assumes nothing.
+-- The guard writer's answer, a ruling and a verdict, as results. Assumes nothing.
 use mathlib.Core.Path.{_≡_, sym, ap, _∙_}
 use mathlib.Core.List.{List}
 use Prim.Native.Nat.{ℕ, _*_, _≤_}
@@ -10,9 +10,11 @@ use Rattle.writer.specs.declared.Written.{Written}
 use Rattle.writer.specs.declared.Written.the-variants.{Done, Refused}
 use Rattle.writer.proofs.WriteLaws.{write-done}
 use Rattle.guard.proofs.Short.{guard-short}
+use Rattle.site.specs.Step.{Stepped, stepped}
+use Rattle.site.specs.declared.Verdict.{Verdict}
 use Rattle.central.specs.Rule.{Ruled, ruled}
 use Rattle.central.specs.declared.Ruling.{Ruling}
-use Rattle.vulcedar.specs.Result.{result, ofWritten, ofRuling}
+use Rattle.vulcedar.specs.Result.{result, ofWritten, ofVerdict, ofRuling}
 
 module _ (p : List ℕ) (code node : ℕ) (b b′ : List ℕ) (w : Written) (h : writeOf p code node b ≡ filled b′ w) where
   pub done-short : (g : WrittenGuard) → w ≡ Done g → g .length ≤ 290
@@ -34,3 +36,7 @@ module _ (p : List ℕ) (code node : ℕ) (b b′ : List ℕ) (w : Written) (h :
 -- a ruling's result, and the bytes beside it
 pub ruling-result : (s : Ruled) (m k : List ℕ) (w : Ruling) → s ≡ ruled m k w → (r : ℕ) → r ≡ ofRuling w → (r ≡ ofRuling (s .ruling)) × ((m ≡ s .marks) × (k ≡ s .notes))
 ruling-result s m k w h r e = (e ∙ sym (ap (λ x. ofRuling (x .ruling)) h), (sym (ap (λ x. x .marks) h), sym (ap (λ x. x .notes) h)))
+
+-- a verdict's result, and the row beside it
+pub step-result : (s : Stepped) (row : List ℕ) (v : Verdict) → s ≡ stepped row v → (r : ℕ) → r ≡ ofVerdict v → (r ≡ ofVerdict (s .verdict)) × (row ≡ s .row)
+step-result s row v h r e = (e ∙ sym (ap (λ x. ofVerdict (x .verdict)) h), sym (ap (λ x. x .row) h))
