@@ -7,6 +7,7 @@ ghost use Rattle.rewrite.specs.Rewrite.{rewriteOf};
 ghost use Rattle.checker.specs.Depths.{depthsOf};
 ghost use Rattle.guard.specs.Rule.{ruleAnswer};
 ghost use Rattle.writer.specs.Written.{writeOf};
+ghost use Rattle.site.specs.declared.Verdict.the-variants.{Refused};
 ghost use Rattle.site.specs.Step.{stepOf, hearOf};
 ghost use Rattle.central.specs.Rule.{ruleOf};
 ghost use Rattle.pass.specs.Pass.{passInto};
@@ -26,6 +27,17 @@ fn with_rule(number: u8, site: u8, rule: u8) -> u32
     ensures { λ r. ⌜ r ≡ result number site rule ⌝ }
 {
     packed(number, site) + 65536 * plan::wide32(rule)
+}
+
+fn of_refusal(why: site::Refusal) -> u32
+    ensures { λ r. ⌜ r ≡ ofVerdict (Refused why) ⌝ }
+{
+    match why {
+        site::Refusal::Invalid(n) => packed(n, 0),
+        site::Refusal::Barred(q) => packed(10, q),
+        site::Refusal::Unmet(q) => packed(11, q),
+        site::Refusal::Untrue => 12,
+    }
 }
 
 fn of_verdict(v: site::Verdict) -> u32
@@ -90,7 +102,12 @@ pub extern "C" fn vulcedar_step(plan: &[u8], code: u32, node: u32, row: &mut [u8
     ensures { λ r. ⌜ r ≡ ofVerdict (stepOf (now (plan .entry)) code node (now (row .entry)) .verdict) ⌝ }
     ensures { λ r. ⌜ now (row .exit) ≡ stepOf (now (plan .entry)) code node (now (row .entry)) .row ⌝ }
 {
-    of_verdict(site::step(plan, code, node, row))
+    // read where it stands: a verdict that is handed on costs a step more
+    match site::step(plan, code, node, row) {
+        site::Verdict::Passed(e) => with_rule(0, e.site, e.rule),
+        site::Verdict::Heard => 0,
+        site::Verdict::Refused(why) => of_refusal(why),
+    }
 }
 
 #[no_mangle]

@@ -1,6 +1,8 @@
--- The parts of the contract's one value. Assumes nothing.
+-- Each verdict is its result. Assumes nothing.
 use mathlib.Core.Path.{sym, ap, _∙_}
-use Rattle.vulcedar.specs.Result.{ofVerdict}
+use Rattle.site.specs.Verdict.{reportOf}
+use Rattle.vulcedar.specs.Result.{ofReport, ofVerdict}
+use Rattle.vulcedar.proofs.ResultLaws.{step-result}
 use borrow.Author.Needs.{needs}
 use Rattle.vulcedar.proofs.vulcedar_step.Statement.{statement}
 use Rattle.vulcedar.proofs.vulcedar_step.Tie as tie
@@ -8,14 +10,54 @@ use Rattle.vulcedar.proofs.vulcedar_step.Tie as tie
 step-requires : tie.Need-step-requires
 step-requires c κs = search needs
 
-of-verdict-requires : tie.Need-of-verdict-requires
-of-verdict-requires c κs = search needs
+enum-known-e : tie.Need-enum-known-e
+enum-known-e c = search needs
+
+with-rule-requires : tie.Need-with-rule-requires
+with-rule-requires c κs = search needs
+
+enum-told : tie.Need-enum-told
+enum-told c = search needs
+
+enum-known-why : tie.Need-enum-known-why
+enum-known-why c = search needs
+
+of-refusal-requires : tie.Need-of-refusal-requires
+of-refusal-requires c κs = search needs
 
 same-length : tie.Need-same-length
 same-length c = search needs
 
 returns : tie.Need-returns
-returns c = let e = sym (c .before .before .before .step .ensures) in (c .of-verdict .ensures ∙ ap (λ s. ofVerdict (s .verdict)) e, ap (λ s. s .row) e)
+unfolding ofReport reportOf
+returns c = step-result _ _ _ (c .before .before .before .before .before .before .step .ensures) _ (c .with-rule .ensures ∙ sym (ap ofVerdict (c .before .before .e .given .1)))
+
+same-length-2 : tie.Need-same-length-2
+same-length-2 c = search needs
+
+returns-2 : tie.Need-returns-2
+unfolding ofReport reportOf
+returns-2 c = step-result _ _ _ (c .before .before .before .before .step .ensures) _ (sym (ap ofVerdict (c .enum-told .given .1)))
+
+same-length-3 : tie.Need-same-length-3
+same-length-3 c = search needs
+
+returns-3 : tie.Need-returns-3
+returns-3 c = step-result _ _ _ (c .before .before .before .before .before .before .step .ensures) _ (c .of-refusal .ensures ∙ sym (ap ofVerdict (c .before .before .why .given .1)))
 
 pub vulcedar-step-spec : {M : Type 1} → statement M
-vulcedar-step-spec = tie.close (tie.spec step-requires of-verdict-requires same-length returns)
+vulcedar-step-spec =
+    tie.close
+    (tie.spec
+    step-requires
+    enum-known-e
+    with-rule-requires
+    enum-told
+    enum-known-why
+    of-refusal-requires
+    same-length
+    returns
+    same-length-2
+    returns-2
+    same-length-3
+    returns-3)
