@@ -31,7 +31,7 @@ use Rattle.job.specs.Simulation.{stepFrom, replayFrom, numbersFrom, endMarks}
 use Rattle.job.proofs.StepLaws.{refused-leaves}
 use Rattle.simulation.specs.Run.{simulateOf, recordByNumber, recordByInto, stepsOf, Ran, ran, runNumber, runOf}
 use Rattle.script.specs.Script.{rehearseInto}
-use Rattle.refusals.specs.Claim.{RefusalsLeave, guardNumber, stepNumber, hearNumber, simulateNumber, ruleNumber}
+use Rattle.refusals.specs.Claim.{RefusalsLeave, guardNumber, eventNumber, hearNumber, simulateNumber, ruleNumber}
 use Rattle.refusals.proofs.ChoiceLaws.{choice, refusal, tested}
 
 rewrite-leaves : (p b : List ℕ) → (rewriteOf p b .number ≡ 0 → ⊥) → rewriteOf p b .out ≡ b
@@ -66,8 +66,8 @@ module _ (b : List ℕ) where
       (λ e. fitted-leaves (encode (guard p (eventOf code node))) (ruleByte p (eventOf code node)))
 
 -- a step, a message and a step of a simulation
-step-left : (p : List ℕ) (code node : ℕ) (row : List ℕ) → (stepNumber p code node row ≡ 0 → ⊥) → stepOf p code node row .row ≡ row
-step-left p code node row h = step-leaves p code node row ∙ rw (ne-eqb (stepNumber p code node row) 0 h)
+step-left : (p : List ℕ) (code node : ℕ) (row : List ℕ) → (eventNumber p code node row ≡ 0 → ⊥) → stepOf p code node row .row ≡ row
+step-left p code node row h = step-leaves p code node row ∙ rw (ne-eqb (eventNumber p code node row) 0 h)
 
 hear-leaves : (p : List ℕ) (code node : ℕ) (row : List ℕ) → (hearNumber p code node row ≡ 0 → ⊥) → hearOf p code node row .row ≡ row
 unfolding hearOf

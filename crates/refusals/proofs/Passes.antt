@@ -37,7 +37,7 @@ use Rattle.retention.specs.Record.{commonTable, frameOk, tableOk, tableNumber, 
 use Rattle.pass_record.specs.PassRecord.{lentNumber, passRecordNumber, passRecordInto}
 use Rattle.job.specs.Simulation.{stateFits, endMarks}
 use Rattle.simulation.specs.Run.{recordNumber, recordByNumber, recordInto, recordByInto, runNumber, runOf}
-use Rattle.refusals.specs.Claim.{Later, stepNumber, hearNumber, guardNumber, ruleNumber}
+use Rattle.refusals.specs.Claim.{Later, eventNumber, hearNumber, guardNumber, ruleNumber}
 use Rattle.refusals.proofs.ChoiceLaws.{choice}
 use Rattle.refusals.proofs.PassNumbers.{none-later, pass-later}
 
@@ -85,7 +85,7 @@ module _ (p : List ℕ) (ok : Accepted p) where
     unfolding stepInvalid
     test-later = invalid-later (eqb (length row) (size p)) true code node (one row long)
 
-    pub step-later : Later (stepNumber p code node row)
+    pub step-later : Later (eventNumber p code node row)
     unfolding stepOf decide verdictNumber refusalNumber
     step-later =
         let n = stepInvalid p code node row in

@@ -20,9 +20,9 @@ use Rattle.pass_record.specs.PassRecord.{passRecordInto}
 use Rattle.simulation.specs.Run.{simulateOf, recordInto, recordByInto, runOf}
 use Rattle.script.specs.Script.{rehearseInto}
 
--- H8 to H12: the number of the answer to an event, a message and a step of a simulation
-abbrev pub stepNumber : List ℕ → ℕ → ℕ → List ℕ → ℕ
-stepNumber p code node row = verdictNumber (stepOf p code node row .verdict)
+-- H16, H17: the number of the answer to an event at a site, to a message, and to either in a simulation
+abbrev pub eventNumber : List ℕ → ℕ → ℕ → List ℕ → ℕ
+eventNumber p code node row = verdictNumber (stepOf p code node row .verdict)
 
 abbrev pub hearNumber : List ℕ → ℕ → ℕ → List ℕ → ℕ
 hearNumber p code node row = hearOf p code node row .number
@@ -30,7 +30,7 @@ hearNumber p code node row = hearOf p code node row .number
 abbrev pub simulateNumber : List ℕ → ℕ → ℕ → ℕ → List ℕ → ℕ
 simulateNumber p code node q st = simulateOf p code node q st .number
 
--- H8, H18: and of the guard writer and the central rule
+-- E10, H18: and of the guard writer and the central rule
 abbrev pub guardNumber : List ℕ → ℕ → ℕ → List ℕ → ℕ
 guardNumber p code node b = writtenNumber (writeOf p code node b .answer)
 
@@ -46,7 +46,7 @@ pub record RefusalsLeave : Type 0 where
   -- vulcedar_guard
   pub guarded : (p : List ℕ) (code node : ℕ) (b : List ℕ) → (guardNumber p code node b ≡ 0 → ⊥) → writeOf p code node b .buffer ≡ b
   -- vulcedar_step
-  pub step : (p : List ℕ) (code node : ℕ) (row : List ℕ) → (stepNumber p code node row ≡ 0 → ⊥) → stepOf p code node row .row ≡ row
+  pub step : (p : List ℕ) (code node : ℕ) (row : List ℕ) → (eventNumber p code node row ≡ 0 → ⊥) → stepOf p code node row .row ≡ row
   -- vulcedar_hear
   pub hear : (p : List ℕ) (code node : ℕ) (row : List ℕ) → (hearNumber p code node row ≡ 0 → ⊥) → hearOf p code node row .row ≡ row
   -- vulcedar_simulate
@@ -82,7 +82,7 @@ pub record AcceptedPass (p : List ℕ) : Type 0 where
   -- vulcedar_guard
   pub guarded : (code node : ℕ) (b : List ℕ) → length (encode (guard p (eventOf code node))) ≤ length b → Later (guardNumber p code node b)
   -- vulcedar_step
-  pub step : (code node : ℕ) (row : List ℕ) → length row ≡ size p → Later (stepNumber p code node row)
+  pub step : (code node : ℕ) (row : List ℕ) → length row ≡ size p → Later (eventNumber p code node row)
   -- vulcedar_hear
   pub hear : (code node : ℕ) (row : List ℕ) → length row ≡ size p → Later (hearNumber p code node row)
   -- vulcedar_simulate
