@@ -20,7 +20,7 @@ use Rattle.pass_record.specs.PassRecord.{passRecordInto}
 use Rattle.simulation.specs.Run.{simulateOf, recordInto, recordByInto, runOf}
 use Rattle.script.specs.Script.{rehearseInto, runTextInto}
 
--- H8 to H12: the number of the answer to an event, to a message, and to a step of a simulation
+-- H16, H17: the number of the answer to an event at a site, to a message, and to either in a simulation
 abbrev pub eventNumber : List ℕ → ℕ → ℕ → List ℕ → ℕ
 eventNumber p code node row = verdictNumber (stepOf p code node row .verdict)
 
@@ -30,7 +30,7 @@ messageNumber p code node row = verdictNumber (hearOf p code node row .verdict)
 abbrev pub simulateNumber : List ℕ → ℕ → ℕ → ℕ → List ℕ → ℕ
 simulateNumber p code node q st = verdictNumber (simulateOf p code node q st .verdict)
 
--- H8, H18: and of the guard writer and the central rule
+-- E10, H18: and of the guard writer and the central rule
 abbrev pub guardNumber : List ℕ → ℕ → ℕ → List ℕ → ℕ
 guardNumber p code node b = writtenNumber (writeOf p code node b .answer)
 
