@@ -10,12 +10,6 @@
 
 #include "vulcedar.h"
 
-#ifndef VULCEDAR_VERSION_MAJOR
-#define VULCEDAR_VERSION_MAJOR 1
-#define VULCEDAR_VERSION_MINOR 0
-#define VULCEDAR_VERSION_PATCH 0
-#endif
-
 static const char USAGE[] = "usage: rehearse < TEXT      (rehearse --help says more)\n";
 
 static const char HELP[] =
@@ -44,14 +38,14 @@ static const char HELP[] =
 static const char *meaning(unsigned number)
 {
     switch (number) {
-    case 1: return "the plan has no node, or more than 160";
-    case 2: return "a kind is not 01 to 08";
-    case 3: return "the root's parent is not ff, or another node's parent is not below its own number";
-    case 4: return "a parent is a task";
-    case 5: return "a block has a wrong number of children";
-    case 6: return "a node is deeper than 32";
-    case 15: return "the text is malformed or longer than 32,768 bytes";
-    case 21: return "the table of classes is not one";
+    case VULCEDAR_BAD_LENGTH: return "the plan has no node, or more than 160";
+    case VULCEDAR_BAD_KIND: return "a kind is not 01 to 08";
+    case VULCEDAR_BAD_PARENT: return "the root's parent is not ff, or another node's parent is not below its own number";
+    case VULCEDAR_TASK_PARENT: return "a parent is a task";
+    case VULCEDAR_BAD_CHILDREN: return "a block has a wrong number of children";
+    case VULCEDAR_TOO_DEEP: return "a node is deeper than 32";
+    case VULCEDAR_BAD_TEXT: return "the text is malformed or longer than 32,768 bytes";
+    case VULCEDAR_BAD_TABLE: return "the table of classes is not one";
     default: return "see docs/RULES.md";
     }
 }
@@ -77,7 +71,7 @@ static int rehearse(void)
     }
     uint32_t result = vulcedar_rehearse(text, length, out, sizeof out);
     unsigned number = VULCEDAR_NUMBER(result);
-    if (number == 0) {
+    if (number == VULCEDAR_PASSED) {
         fwrite(out, 1, VULCEDAR_VALUE(result), stdout);
         return close_output(0);
     }
