@@ -251,12 +251,12 @@ uint32_t vulcedar_pass_record(const uint8_t *plan, size_t plan_len, const uint8_
 uint32_t vulcedar_record_by(const uint8_t *plan, size_t plan_len, const uint8_t *table, size_t table_len, const uint8_t *state,
                             size_t state_len, uint8_t *marks, size_t marks_len, uint8_t *classes, size_t classes_len);
 
-/* A rehearsal text never has more bytes than this; what it prints always fits into the other. */
+/* The text of a simulation never has more bytes than this; what it prints always fits into the other. */
 #define VULCEDAR_TEXT_MOST 32768u
 #define VULCEDAR_PRINTED_MOST 16384u
 
 /*
- * Runs a rehearsal text, a table of classes if it has one, a plan and steps (docs/RULES.md, J), from a state of zeros, and
+ * Runs the text of a simulation, a table of classes if it has one, a plan and steps (docs/RULES.md, J), from a state of zeros, and
  * prints at the front of out a line for each step, its number, and a line for each node, its number, kind, mark and class.
  * The value is the length printed; the bytes of out behind it are left. 15 if the text is malformed or longer than
  * VULCEDAR_TEXT_MOST, then 21 for its table, 1 to 6 for its plan, then 7 if out_len is below VULCEDAR_PRINTED_MOST. A step

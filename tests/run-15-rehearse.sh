@@ -1,6 +1,6 @@
 #!/usr/bin/env bash
 # The program rehearse from outside, the proved one (target/bin/rehearse) and the command in C over the archive (target/rehearse/rehearse): the
-# examples (a captioning day, an and-block that ends early, a filing table of the house), the text limit and input that is no text, by both;
+# examples (a captioning day, an and-block that ends early, a table of classes of the house), the text limit and input that is no text, by both;
 # the command's exit status, its options and failing output; and the same bytes from both for some hundred changed texts.
 set -euo pipefail
 cd "$(dirname "$0")/.."

@@ -1,5 +1,5 @@
 /*
- * rehearse: reads a rehearsal text from standard input and prints what it gives, by vulcedar_rehearse.
+ * rehearse: reads the text of a simulation from standard input and prints what it gives, by vulcedar_rehearse.
  *
  * exit status: 0 the text was run, 1 the text, its table or its plan is refused, 2 wrong usage, or input or output failed
  */

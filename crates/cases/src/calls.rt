@@ -1,4 +1,4 @@
-// The calls by their letters, through the functions that C programs call; C has no list of steps and no text.
+// The calls by their letters, through the functions that C programs call; C has no list of steps, and a text is tried as the program prints it.
 use crate::item;
 ghost use Prim.Native.Nat.{_≤_};
 ghost use Rattle.cases.specs.Table.{Begins};
