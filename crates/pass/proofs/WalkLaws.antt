@@ -136,8 +136,6 @@ module _ {p a f s m₀ : List ℕ} {v k x : ℕ} (b : Begun p a f s m₀ v k x) 
 pub record Turn (p a : List ℕ) (v : ℕ) (m : List ℕ) (n c : ℕ) : Type 0 where
   pub within : c < size p
   pub small : c < 160
-  pub index : 2 * c < length p
-  pub answered : c < length a
   pub written : c < length m
   pub few : n < 255
   pub falls : size p - c < size p - v
@@ -166,8 +164,6 @@ module _ {p a f s m₀ : List ℕ} {v k x : ℕ} {m : List ℕ} {e n c : ℕ} (h
         record {
           within = ch .high;
           small = omega (arith, ch .high, r .accepted .few);
-          index = omega (arith, ch .high, r .accepted .even);
-          answered = omega (arith, ch .high, r .answers);
           written = omega (arith, ch .high, h .long);
           few = omega (arith, h .child l .1, ch .high, r .accepted .few);
           falls = omega (arith, ch .high, ch .of);
