@@ -256,11 +256,11 @@ uint32_t vulcedar_record_by(const uint8_t *plan, size_t plan_len, const uint8_t 
 #define VULCEDAR_PRINTED_MOST 16384u
 
 /*
- * Runs the text of a simulation, a table of classes if it has one, a plan and steps (docs/RULES.md, J), from a state of zeros, and
- * prints at the front of out a line for each step, its number, and a line for each node, its number, kind, mark and class.
- * The value is the length printed; the bytes of out behind it are left. 15 if the text is malformed or longer than
- * VULCEDAR_TEXT_MOST, then 21 for its table, 1 to 6 for its plan, then 7 if out_len is below VULCEDAR_PRINTED_MOST. A step
- * that is refused has its number in its line and does not refuse the text. out is written only on 0.
+ * Runs the text of a simulation, a table of classes if it has one, a plan and steps (docs/RULES.md, J), from a state of
+ * zeros, and prints at the front of out a line for each step, its number, and a line for each node, its number, kind, mark
+ * and class. The value is the length printed; the bytes of out behind it are left. 15 if the text is malformed or longer
+ * than VULCEDAR_TEXT_MOST, then 21 for its table, 1 to 6 for its plan, then 7 if out_len is below VULCEDAR_PRINTED_MOST. A
+ * step that is refused has its number in its line and does not refuse the text. out is written only on 0.
  */
 uint32_t vulcedar_rehearse(const uint8_t *text, size_t text_len, uint8_t *out, size_t out_len);
 

@@ -134,6 +134,6 @@ pub record HostClaim (p : List ℕ) (lay : Layout) : Type 0 where
   pub ends : (es : List Event) → isRun p es ≡ true →
       (fs : List Event) × (xs : List Action) × (keepsRules p lay xs ≡ true) × (happened p xs ≡ es ++ fs) × HostsOver p lay xs
 
--- THE CLAIM, for every accepted plan, with any layout that gives every node a row
+-- THE CLAIM (I14), for every accepted plan, with any layout that gives every node a row
 abbrev pub HostsCovered : Type 0
 HostsCovered = (p : List ℕ) → Accepted p → (lay : Layout) → Housed p lay → HostClaim p lay

@@ -37,7 +37,7 @@ guardNumber p code node b = writtenNumber (writeOf p code node b .answer)
 abbrev pub ruleNumber : List ℕ → ℕ → ℕ → List ℕ → List ℕ → ℕ
 ruleNumber p code node m k = rulingNumber (ruleOf p code node m k .ruling)
 
--- H: where the number is not 0, every lent byte is as it was
+-- H0: where the number is not 0, every lent byte is as it was
 pub record RefusalsLeave : Type 0 where
   -- vulcedar_rewrite
   pub rewrite : (p b : List ℕ) → (rewriteOf p b .number ≡ 0 → ⊥) → rewriteOf p b .out ≡ b
@@ -102,10 +102,11 @@ pub record AcceptedPass (p : List ℕ) : Type 0 where
   -- a list of steps in frames
   pub run : (bs st ns : List ℕ) → length st ≡ size p * size p → length bs % 3 ≡ 0 → length ns ≡ length bs / 3 → runOf p bs st ns .number ≡ 0
 
+-- A1 to A6, H0 to H7: DEMAND 1
 pub record Demand1 : Type 0 where
   -- A1 to A6: the check passes every plan within the limits, and no other
   pub exact : CheckExact
   -- H0 to H7
   pub accepted : (p : List ℕ) → Accepted p → AcceptedPass p
-  -- H
+  -- H0
   pub refused : RefusalsLeave

@@ -10,14 +10,14 @@ use Rattle.guard.specs.Guard.{Guard, each, anyOf, guard}
 use Rattle.pass.specs.Pass.{pass}
 use Rattle.rewrite.specs.Rewrite.{rewritten}
 
--- the guard before kind 08: the abort of an and waited for all children to commit or abort, one of them to abort; all others are as now
+-- A7: the guard before kind 08: the abort of an and waited for all children to commit or abort, one of them to abort; all others are as now
 unfoldable pub oldGuard : List ℕ → Event → Guard
 oldGuard p e =
     cond (sameCode abort (e .code) && isKind and (kind p (e .node)))
     (each (commit ∷ abort ∷ []) (children p (e .node)) ++ anyOf abort (children p (e .node)))
     (guard p e)
 
--- MAIN CLAIM. A rewritten plan is accepted if the plan was, its guards are the old ones of the plan, and the pass ends alike over both.
+-- MAIN CLAIM (A7). A rewritten plan is accepted if the plan was, its guards are the old ones of the plan, and the pass ends alike over both.
 pub record Kept (p : List ℕ) : Type 0 where
   pub checked : checkNumber (rewritten p) ≡ checkNumber p
   pub guards : (e : Event) → guard (rewritten p) e ≡ oldGuard p e

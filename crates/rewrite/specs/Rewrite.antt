@@ -14,7 +14,7 @@ rewrittenByte p i = cond (eqb (i % 2) 0 && eqb (getD p i 0) 3) 8 (getD p i 0)
 unfoldable pub rewritten : List ℕ → List ℕ
 rewritten p = table (rewrittenByte p) (length p)
 
--- a number, 0 where the plan was rewritten, and the lent bytes
+-- A7, H7: a number, 0 where the plan was rewritten, and the lent bytes
 pub record Rewrote : Type 0 where
   pub number : ℕ
   pub out : List ℕ
@@ -26,7 +26,7 @@ rewrote n out = record { number = n; out = out }
 unfoldable pub rewriteNumber : List ℕ → List ℕ → ℕ
 rewriteNumber p out = fitNumber p (eqb (length out) (length p))
 
--- a refused call leaves the lent bytes
+-- A7, H0: a refused call leaves the lent bytes; any other leaves the rewritten plan
 unfoldable pub rewriteOf : List ℕ → List ℕ → Rewrote
 rewriteOf p out =
     cond (not (eqb (rewriteNumber p out) 0)) (rewrote (rewriteNumber p out) out)

@@ -8,16 +8,16 @@ use Rattle.lists.specs.Seq.{any, earlier}
 use Rattle.plan.specs.Plan.{task, xor, kind, parent, children}
 use Rattle.event.specs.Event.{start, offer, commit, abort, answered-yes, answered-no, pick, Event, at}
 
--- n bytes
+-- F1, I1: n bytes
 pub record Bytes (n : ℕ) (l : List ℕ) : Type 0 where
   pub long : length l ≡ n
   pub small : (i : ℕ) → getD l i 0 < 256
 
--- the place, from 1, of v among its parent's children
+-- F1: the place, from 1, of v among its parent's children
 unfoldable pub placeOf : List ℕ → ℕ → ℕ
 placeOf p v = suc (length (earlier (children p (parent p v)) v))
 
--- the answers a agree with what happened: works and yes are 1, fails and no 2, a pick is the child's place
+-- I9: the answers a agree with what happened: works and yes are 1, fails and no 2, a pick is the child's place
 pub record Agrees (p : List ℕ) (happened : Event → Bool) (a : List ℕ) : Type 0 where
   pub task-works : (v : ℕ) → kind p v ≡ task → (happened (at offer v) || happened (at commit v)) ≡ true → getD a v 0 ≡ 1
   pub task-fails : (v : ℕ) → kind p v ≡ task → happened (at abort v) ≡ true → getD a v 0 ≡ 2

@@ -27,7 +27,7 @@ GuardsFollowRule = (p : List ℕ) → Accepted p → (es : List Event) → isRun
 abbrev pub FiveEvents : Type 0
 FiveEvents = (p : List ℕ) (es : List Event) → isRun p es ≡ true → length es ≤ 5 * size p
 
--- no event is allowed any more
+-- I8: no event is allowed any more
 abbrev pub Stuck : List ℕ → Central → Type 0
 Stuck p s = (e : Event) → allowed p s e ≡ false
 
@@ -35,7 +35,7 @@ Stuck p s = (e : Event) → allowed p s e ≡ false
 abbrev pub RunsEnd : Type 0
 RunsEnd = (p : List ℕ) (es : List Event) → isRun p es ≡ true → (fs : List Event) × (isRun p (es ++ fs) ≡ true) × Stuck p (reaches fresh (es ++ fs))
 
--- a node has ended: it is committed, failed or turned down
+-- E8: a node has ended: it is committed, failed or turned down
 unfoldable pub ended : Central → ℕ → Bool
 ended s v = marked s committed v || marked s failed v || marked s turned-down v
 
@@ -53,7 +53,7 @@ StuckIsPass = (p : List ℕ) → Accepted p → (es : List Event) → isRun p es
 abbrev pub AnswersAgree : Type 0
 AnswersAgree = (p : List ℕ) → Accepted p → (es : List Event) → isRun p es ≡ true → (a : List ℕ) × Bytes (size p) a × Agrees p (among es) a
 
--- w is below v
+-- A4: w is below v
 pub data Below (p : List ℕ) (v : ℕ) : ℕ → Type 0 where
   child : {w : ℕ} → 0 < w → parent p w ≡ v → Below p v w
   deeper : {w : ℕ} → 0 < w → Below p v (parent p w) → Below p v w
@@ -67,7 +67,7 @@ AnswersBelow = (p a b : List ℕ) (v : ℕ) → v < size p →
 abbrev pub MarksBelow : Type 0
 MarksBelow = (p a : List ℕ) (fuel v : ℕ) (m : List ℕ) (w : ℕ) → (Below p v w → ⊥) → getD (settle p a fuel v m .marks) w 0 ≡ getD m w 0
 
--- how node v ends by the answers a
+-- F3: how node v ends by the answers a
 unfoldable pub outcomeAt : List ℕ → List ℕ → ℕ → Outcome
 outcomeAt p a v = settle p a (size p) v (replicate (size p) 0) .outcome
 
