@@ -21,11 +21,11 @@ use Rattle.site.specs.Step.{stepOf}
 use Rattle.runs.specs.Agree.{Bytes, Agrees}
 use Rattle.job.specs.Simulation.{rowOf, Step, message, simulate, stepNumber, replayFrom, passedFrom, replay, passed, heardAt, markAt, endMarks}
 
--- the row where e happens, after the steps ts
+-- B3, I2: the row where e happens, after the steps ts
 unfoldable pub rowAt : List ℕ → Layout → List Step → Event → List ℕ
 rowAt p lay ts e = rowOf p (replay p lay ts) (siteOf p lay e)
 
--- what the central rule has after the run that the steps ts made
+-- E9, I4: what the central rule has after the run that the steps ts made
 unfoldable pub centralAfter : List ℕ → Layout → List Step → Central
 centralAfter p lay ts = reaches fresh (passed p lay ts)
 
@@ -68,10 +68,10 @@ pub record Claim (p : List ℕ) (lay : Layout) : Type 0 where
   pub faithful : (ts : List Step) (e : Event) → Informed p lay ts (siteOf p lay e) →
       (verdictNumber (stepOf p (codeNumber (e .code)) (e .node) (rowAt p lay ts e) .verdict) ≡ 0) ↔ (allowed p (centralAfter p lay ts) e ≡ true)
 
--- THE CLAIM OF DEMAND 3: for every accepted plan, with any layout that gives every node a row
+-- THE CLAIM OF DEMAND 3 (I1 to I11): for every accepted plan, with any layout that gives every node a row
 abbrev pub Demand3 : Type 0
 Demand3 = (p : List ℕ) → Accepted p → (lay : Layout) → Housed p lay → Claim p lay
 
--- each node its own row
+-- B4: each node its own row
 abbrev pub OwnDemand3 : Type 0
 OwnDemand3 = (p : List ℕ) → Accepted p → Claim p (own p)

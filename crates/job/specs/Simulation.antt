@@ -27,7 +27,7 @@ rowOf p st q = take (size p) (drop (q * size p) st)
 unfoldable pub withRow : List ℕ → List ℕ → ℕ → List ℕ → List ℕ
 withRow p st q row = take (q * size p) st ++ (row ++ drop (size p) (drop (q * size p) st))
 
--- I: a step is any numbers, an event that happens (code, node) or a message of it to a site (code, node, site)
+-- I0: a step is any numbers, an event that happens (code, node) or a message of it to a site (code, node, site)
 pub data Step : Type 0 where
   event : ℕ → ℕ → Step
   message : ℕ → ℕ → ℕ → Step
@@ -61,6 +61,7 @@ verdictAt q (Refused Untrue) = Refused Untrue
 unfoldable pub eventBy : List ℕ → List ℕ → ℕ → Stepped → Simulated
 eventBy p st q s = simulated (withRow p st q (s .row)) (verdictAt q (s .verdict))
 
+-- H1 to H9, I2: refused by the tests, else so
 unfoldable pub happen : List ℕ → Layout → List ℕ → ℕ → ℕ → Simulated
 happen p lay st code node =
     cond (not (eqb (invalid p (stateFits p lay st) true code node) 0)) (simulated st (Refused (Invalid (invalid p (stateFits p lay st) true code node))))
@@ -74,7 +75,7 @@ tell p lay st code node q =
     (cond (not (heard (rowOf p st (siteOf p lay (eventOf code node))) (eventOf code node))) (simulated st (Refused Untrue))
     (simulated (withRow p st q (hear (rowOf p st q) code node)) Heard))
 
--- I: a step of either sort
+-- I0: a step of either sort
 unfoldable pub simulate : List ℕ → Layout → List ℕ → Step → Simulated
 simulate p lay st (event code node) = happen p lay st code node
 simulate p lay st (message code node q) = tell p lay st code node q
@@ -84,11 +85,12 @@ abbrev pub stepNumber : List ℕ → Layout → List ℕ → Step → ℕ
 stepNumber p lay st t = verdictNumber (simulate p lay st t .verdict)
 
 -- LISTS OF STEPS, from a state st; `zeros` is where a job begins
+-- I0: the state that a list leaves
 unfoldable pub replayFrom : List ℕ → Layout → List ℕ → List Step → List ℕ
 replayFrom p lay st [] = st
 replayFrom p lay st (t ∷ ts) = replayFrom p lay (simulate p lay st t .state) ts
 
--- the number of each step
+-- I12: the number of each step
 unfoldable pub numbersFrom : List ℕ → Layout → List ℕ → List Step → List ℕ
 numbersFrom p lay st [] = []
 numbersFrom p lay st (t ∷ ts) = stepNumber p lay st t ∷ numbersFrom p lay (simulate p lay st t .state) ts
@@ -98,6 +100,7 @@ unfoldable pub passedOf : Step → ℕ → List Event
 passedOf (event code node) n = cond (eqb n 0) (eventOf code node ∷ []) []
 passedOf (message code node q) n = []
 
+-- I3: the events of a list
 unfoldable pub passedFrom : List ℕ → Layout → List ℕ → List Step → List Event
 passedFrom p lay st [] = []
 passedFrom p lay st (t ∷ ts) = passedOf t (stepNumber p lay st t) ++ passedFrom p lay (simulate p lay st t .state) ts
@@ -107,16 +110,19 @@ unfoldable pub heardOf : List ℕ → Layout → ℕ → Step → ℕ → List E
 heardOf p lay q (event code node) n = cond (eqb n 0 && eqb (siteOf p lay (eventOf code node)) q) (eventOf code node ∷ []) []
 heardOf p lay q (message code node r) n = cond (eqb n 0 && eqb r q) (eventOf code node ∷ []) []
 
+-- I3: what site q heard in a list
 unfoldable pub heardFrom : List ℕ → Layout → ℕ → List ℕ → List Step → List Event
 heardFrom p lay q st [] = []
 heardFrom p lay q st (t ∷ ts) = heardOf p lay q t (stepNumber p lay st t) ++ heardFrom p lay q (simulate p lay st t .state) ts
 
+-- B5, I1: the state where a job begins, and a list from there on
 unfoldable pub zeros : List ℕ → Layout → List ℕ
 zeros p lay = replicate (lay .rows * size p) 0
 
 unfoldable pub replay : List ℕ → Layout → List Step → List ℕ
 replay p lay ts = replayFrom p lay (zeros p lay) ts
 
+-- I3: the events of a list from there on, and what site q heard in it
 unfoldable pub passed : List ℕ → Layout → List Step → List Event
 passed p lay ts = passedFrom p lay (zeros p lay) ts
 
@@ -132,9 +138,10 @@ markBy heard v =
     (cond (heard (at offer v)) offered
     (cond (heard (at start v)) running idle))))
 
--- by its own site's row
+-- B6: by its own site's row
 unfoldable pub markAt : List ℕ → Layout → List ℕ → ℕ → Mark
 markAt p lay st v = markBy (heard (rowOf p st (lay .home v))) v
 
+-- G3: the marks of the end record
 unfoldable pub endMarks : List ℕ → Layout → List ℕ → List ℕ
 endMarks p lay st = table (λ v. markNumber (markAt p lay st v)) (size p)

@@ -15,7 +15,7 @@ use Rattle.event.specs.Valid.{invalid}
 use Rattle.retention.specs.Record.{commonTable, tableNumber, recordOf, Recorded, recorded, recordedAs}
 use Rattle.job.specs.Simulation.{Step, stepFrom, Simulated, simulate, stateFits, replayFrom, numbersFrom, endMarks}
 
--- q is the row of the event's site in a state of len bytes; a q that is no row of the plan says that the call is not valid
+-- B3, B4: q is the row of the event's site in a state of len bytes; a q that is no row of the plan says that the call is not valid
 pub record Placed (p : List ℕ) (len code node q : ℕ) : Type 0 where
   pub here : q < size p → (q ≡ siteOf p (own p) (eventOf code node)) × (len ≡ size p * size p)
   pub nowhere : size p ≤ q → invalid p (eqb len (size p * size p)) true code node ≡ 0 → ⊥
@@ -28,7 +28,7 @@ markByte b = cond (hasBit b 3) 3 (cond (hasBit b 4) 4 (cond (hasBit b 8) 5 (cond
 unfoldable pub simulateOf : List ℕ → ℕ → ℕ → ℕ → List ℕ → Simulated
 simulateOf p code node site st = simulate p (own p) st (stepFrom code node site)
 
--- H7: the lengths of what is lent for a record
+-- H7: the state is not nodes times nodes, or the marks or classes are not one byte a node
 unfoldable pub recordNumber : List ℕ → List ℕ → List ℕ → List ℕ → ℕ
 recordNumber p st m c = fitNumber p (stateFits p (own p) st && eqb (length m) (size p) && eqb (length c) (size p))
 
@@ -36,7 +36,7 @@ recordNumber p st m c = fitNumber p (stateFits p (own p) st && eqb (length m) (s
 unfoldable pub recordByNumber : List ℕ → List ℕ → List ℕ → List ℕ → List ℕ → ℕ
 recordByNumber p tab st m c = cond (not (eqb (tableNumber tab) 0)) (tableNumber tab) (recordNumber p st m c)
 
--- G3: the record by a table, into two buffers
+-- G3, G4: the record by the house's own table
 unfoldable pub recordByInto : List ℕ → List ℕ → List ℕ → List ℕ → List ℕ → Recorded
 recordByInto p tab st m c =
     cond (not (eqb (recordByNumber p tab st m c) 0)) (recorded (recordByNumber p tab st m c) m c)
@@ -46,7 +46,7 @@ recordByInto p tab st m c =
 abbrev pub recordInto : List ℕ → List ℕ → List ℕ → List ℕ → Recorded
 recordInto p st m c = recordByInto p commonTable st m c
 
--- J1: the steps of n frames of three bytes, from byte i on
+-- I12, J1: the steps of n frames of three bytes, from byte i on
 unfoldable pub stepsFrom : ℕ → List ℕ → ℕ → List Step
 stepsFrom zero bs i = []
 stepsFrom (suc n) bs i = stepFrom (getD bs i 0) (getD bs (i + 1) 0) (getD bs (i + 2) 0) ∷ stepsFrom n bs (i + 3)
@@ -54,7 +54,7 @@ stepsFrom (suc n) bs i = stepFrom (getD bs i 0) (getD bs (i + 1) 0) (getD bs (i 
 unfoldable pub stepsOf : List ℕ → List Step
 stepsOf bs = stepsFrom (length bs / 3) bs 0
 
--- a list of steps: the number of the call, the state and the steps' numbers
+-- I12: a list of steps: the number of the call, the state and the steps' numbers
 pub record Ran : Type 0 where
   pub number : ℕ
   pub state : List ℕ
@@ -67,6 +67,7 @@ ran n st ns = record { number = n; state = st; numbers = ns }
 unfoldable pub runNumber : List ℕ → List ℕ → List ℕ → List ℕ → ℕ
 runNumber p bs st ns = fitNumber p (stateFits p (own p) st && eqb (length bs % 3) 0 && eqb (length ns) (length bs / 3))
 
+-- I12: the frames are run from the lent state
 unfoldable pub runOf : List ℕ → List ℕ → List ℕ → List ℕ → Ran
 runOf p bs st ns =
     cond (not (eqb (runNumber p bs st ns) 0)) (ran (runNumber p bs st ns) st ns)

@@ -14,7 +14,6 @@ use Rattle.event.proofs.ValidLaws.{valid}
 use Rattle.guard.specs.Guard.{guard, holds, barred}
 use Rattle.guard.specs.Rule.{ruleByte}
 use Rattle.row.specs.Row.{heard, hear}
-use Rattle.row.proofs.RowLaws.{hear-again}
 use Rattle.site.specs.declared.Refusal.the-variants.{Invalid, Barred, Unmet}
 use Rattle.site.specs.declared.Verdict.the-variants.{Passed, Heard, Refused}
 use Rattle.site.specs.Verdict.{reportOf, verdictNumber}
@@ -99,9 +98,3 @@ module _ (p : List ℕ) (code node : ℕ) (row : List ℕ) where
   pub step-leaves : stepOf p code node row .row ≡ cond (eqb (verdictNumber (stepOf p code node row .verdict)) 0) (hear row code node) row
   unfolding reportOf
   step-leaves = step-by (λ v b g s. s .row ≡ cond (eqb (verdictNumber (s .verdict)) 0) (hear row code node) row) (λ n h b g. rw (ne-eqb n 0 h)) (λ g. refl) refl refl
-
-  -- a repeated message changes nothing
-  pub hear-repeat : heard row (eventOf code node) ≡ true → hearOf p code node row .row ≡ row
-  hear-repeat h = cases (decided (eqb (stepInvalid p code node row) 0))
-      (λ e. rw (hear-valid (eqb-true _ 0 e)) (hear-again row code node h))
-      (λ e. rw (hear-invalid (stepInvalid p code node row) refl (eqb-false _ 0 e)))

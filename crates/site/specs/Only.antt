@@ -11,12 +11,12 @@ use Rattle.site.specs.Step.{Stepped, stepped, stepOf}
 use Rattle.site.specs.declared.Refusal.{Refusal}
 use Rattle.site.specs.declared.Verdict.the-variants.{Refused}
 
--- a step that was refused and left the row
+-- H0: a step that was refused and left the row
 pub record Declined (row : List ℕ) (s : Stepped) : Type 0 where
   pub why : Refusal
   pub is : s ≡ stepped row (Refused why)
 
--- its guard has a clause without events, written 020102nn00; it holds for nobody, and no row lets the event pass
+-- C1, C6: its guard has a clause without events, written 020102nn00; it holds for nobody, and no row lets the event pass
 pub record NeverDown (p : List ℕ) (v : ℕ) : Type 0 where
   pub written : encode (guard p (at down v)) ≡ 2 ∷ 1 ∷ 2 ∷ v ∷ 0 ∷ []
   pub unmet : (heard : Event → Bool) → holds heard (guard p (at down v)) ≡ false

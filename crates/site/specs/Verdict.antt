@@ -6,6 +6,7 @@ use Rattle.site.specs.declared.Refusal.the-variants.{Invalid, Barred, Un
 use Rattle.site.specs.declared.Verdict.{Verdict}
 use Rattle.site.specs.declared.Verdict.the-variants.{Passed, Heard, Refused}
 
+-- K1, K2: the three numbers of a report
 abbrev pub reported : ℕ → ℕ → ℕ → Report
 reported n q r = record { number = n; site = q; rule = r }
 
