@@ -17,6 +17,18 @@ for rule in $(uniq -d "$work/rules"); do fault "RULES.md has $rule twice"; done
 } | grep -oE '\b[A-K][0-9]+\b' | sort -u > "$work/named"
 for rule in $(comm -23 "$work/named" <(sort -u "$work/rules")); do fault "$rule is named, and no rule has this number"; done
 
+# each definition names its rule in its comment, or stands under one that does; lists has none of the rules, cases none to promise
+cat > "$work/ruleless.awk" <<'AWK'
+FNR == 1 { comment = ""; above = 1 }
+/^ *--/ { comment = above ? comment $0 : $0; above = 1; next }
+/^use / || /^ *$/ { next }
+{ above = 0 }
+/^(unfoldable |abbrev )?pub .* : / && comment !~ /[A-K][0-9]/ { print FILENAME ": " $0 }
+AWK
+while IFS= read -r line; do fault "a definition without a rule: $line"; done < <(
+  find crates -path '*/specs/*.antt' ! -name Lib.antt ! -path 'crates/lists/*' ! -path 'crates/cases/*' -exec awk -f "$work/ruleless.awk" {} \; | cut -c 1-120
+)
+
 # every line of a claim that THEOREM.md quotes stands in a specs file
 cat crates/*/specs/*.antt | sed 's/^ *//; s/ *$//' | sort -u > "$work/specs"
 awk '/^ *```text/ { on = 1; next } /^ *```/ { on = 0 } on' docs/THEOREM.md | sed 's/^ *//; s/ *$//' | grep -v '^$' | sort -u > "$work/quoted"
