@@ -9,7 +9,7 @@ use Rattle.plan.specs.Check.{lengthOk, kindOk, parentOk, underBlock, fits, coun
 use Rattle.event.specs.Event.{codeNumber, codeOf, isCode, appliesBy, applies, known, commit, at}
 use Rattle.event.specs.Valid.{invalid}
 use Rattle.guard.specs.Guard.{finishBy, finishing, guardBy, guard}
-use Rattle.guard.specs.Rule.{ruleKind, isPicked, ruleByte, ruleBytes, named, ruleAnswer}
+use Rattle.guard.specs.Rule.{ruleKind, isPicked, ruleByte, ruleBytes, foundRule, ruleAnswer}
 use Rattle.guard.specs.Bytes.{encEvents, encClauses, encode}
 
 -- an xor with n tasks
@@ -55,7 +55,7 @@ everyRule =
     ++ ofKind 8 ++ (rule (xorOf 1) 3 1 ∷ [])
 
 -- each is valid, and in this order they are the listed bytes
-pub every-byte : map (λ k. ruleAnswer (k .plan) (k .code) (k .node)) everyRule ≡ map (named 0) ruleBytes
+pub every-byte : map (λ k. ruleAnswer (k .plan) (k .code) (k .node)) everyRule ≡ map (foundRule 0) ruleBytes
 unfolding everyRule rule pairOf offers ofKind tasks xorOf ruleAnswer ruleBytes ruleKind isPicked ruleByte aboveByte codeNumber codeOf isCode appliesBy applies known invalid
     kindNumber isKind kindOf size kindByte kind parent childrenBelow children childCount above inXor depthWithin depth keep upFrom allBelow lengthOk kindOk parentOk
     underBlock fits countOk depthOk atAll checkNumber fitNumber

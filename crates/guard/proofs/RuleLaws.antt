@@ -17,7 +17,7 @@ use Rattle.event.specs.Event.{Code, start, offer, commit, abort, answered-yes, 
 use Rattle.event.specs.Valid.{invalid}
 use Rattle.event.proofs.CodeLaws.{code-number, code-down}
 use Rattle.guard.proofs.Between.{not-between}
-use Rattle.guard.specs.Rule.{ruleKind, isPicked, ruleByte, ruleBytes, RuleClosed, named, ruleAnswer}
+use Rattle.guard.specs.Rule.{ruleKind, isPicked, ruleByte, ruleBytes, RuleClosed, foundRule, ruleAnswer}
 
 -- by the code's number
 pub rule-kind-number : (p : List ℕ) (v : ℕ) (c : Code)
@@ -204,10 +204,10 @@ rule-small {p} a {v} l n = cases (decided (isPicked p (eventOf n v)))
 
 -- the answers of `rule`
 module _ (p : List ℕ) (code node : ℕ) {n : ℕ} (e : n ≡ invalid p true true code node) where
-  pub answer-refused : (n ≡ 0 → ⊥) → ruleAnswer p code node ≡ named n 0
+  pub answer-refused : (n ≡ 0 → ⊥) → ruleAnswer p code node ≡ foundRule n 0
   unfolding ruleAnswer
   answer-refused h = rw (← e, ne-eqb n 0 h)
 
-  pub answer-named : {r : ℕ} → n ≡ 0 → r ≡ ruleByte p (eventOf code node) → ruleAnswer p code node ≡ named n r
+  pub answer-found : {r : ℕ} → n ≡ 0 → r ≡ ruleByte p (eventOf code node) → ruleAnswer p code node ≡ foundRule n r
   unfolding ruleAnswer
-  answer-named z h = rw (← e, eq-eqb n 0 z, h)
+  answer-found z h = rw (← e, eq-eqb n 0 z, h)

@@ -31,16 +31,16 @@ unfoldable pub ruleByte : List ℕ → Event → ℕ
 ruleByte p e = cond (isPicked p e) 0xf3 (16 * ruleKind p (e .code) (e .node) + codeNumber (e .code))
 
 -- K2: the answer to the question for a rule: its number (H), and the rule, 0 where the question is refused
-pub record Named : Type 0 where
+pub record FoundRule : Type 0 where
   pub number : ℕ
   pub rule : ℕ
 
-abbrev pub named : ℕ → ℕ → Named
-named n r = record { number = n; rule = r }
+abbrev pub foundRule : ℕ → ℕ → FoundRule
+foundRule n r = record { number = n; rule = r }
 
 -- K2: refused with 1 to 6, 8 or 9, in this order; else the rule
-unfoldable pub ruleAnswer : List ℕ → ℕ → ℕ → Named
-ruleAnswer p code node = named (invalid p true true code node) (cond (not (eqb (invalid p true true code node) 0)) 0 (ruleByte p (eventOf code node)))
+unfoldable pub ruleAnswer : List ℕ → ℕ → ℕ → FoundRule
+ruleAnswer p code node = foundRule (invalid p true true code node) (cond (not (eqb (invalid p true true code node) 0)) 0 (ruleByte p (eventOf code node)))
 
 -- C10: the bytes that occur
 unfoldable pub ruleBytes : List ℕ

@@ -1,6 +1,6 @@
 -- Results for C (rules K). Definitions only.
 use Prim.Native.Nat.{ℕ, _+_, _*_}
-use Rattle.guard.specs.Rule.{Named}
+use Rattle.guard.specs.Rule.{FoundRule}
 use Rattle.writer.specs.declared.Written.{Written}
 use Rattle.writer.specs.Written.{writtenNumber, writtenRule, writtenLength}
 use Rattle.site.specs.declared.Report.{Report}
@@ -23,8 +23,8 @@ unfoldable pub ofWritten : Written → ℕ
 ofWritten w = result (writtenNumber w) (writtenRule w) (writtenLength w)
 
 -- K2: the rule is the value
-unfoldable pub ofNamed : Named → ℕ
-ofNamed r = result (r .number) 0 (r .rule)
+unfoldable pub ofFoundRule : FoundRule → ℕ
+ofFoundRule r = result (r .number) 0 (r .rule)
 
 -- K1, K2: a verdict's number and site, and its rule as the value
 unfoldable pub ofReport : Report → ℕ

@@ -15,7 +15,7 @@ ghost use Rattle.retention.specs.Record.{tableNumber};
 ghost use Rattle.pass_record.specs.PassRecord.{passRecordInto};
 ghost use Rattle.simulation.specs.Run.{simulateOf, recordByInto, recordInto};
 ghost use Rattle.script.specs.Script.{runTextInto};
-ghost use Rattle.vulcedar.specs.Result.{version, result, ofWritten, ofNamed, ofVerdict, ofRuling, ofText};
+ghost use Rattle.vulcedar.specs.Result.{version, result, ofWritten, ofFoundRule, ofVerdict, ofRuling, ofText};
 
 fn packed(number: u8, site: u8) -> u32
     ensures { λ r. ⌜ r ≡ result number site 0 ⌝ }
@@ -91,7 +91,7 @@ pub extern "C" fn vulcedar_guard(plan: &[u8], code: u32, node: u32, buf: &mut [u
 
 #[no_mangle]
 pub extern "C" fn vulcedar_rule(plan: &[u8], code: u32, node: u32) -> u32
-    ensures { λ r. ⌜ r ≡ ofNamed (ruleAnswer (now (plan .entry)) code node) ⌝ }
+    ensures { λ r. ⌜ r ≡ ofFoundRule (ruleAnswer (now (plan .entry)) code node) ⌝ }
 {
     let r = guard::rule(plan, code, node);
     with_rule(r.number, 0, r.rule)

@@ -4,7 +4,7 @@ use mathlib.Core.Bool.{true}
 use native.Mathlib.Omega.{arith}
 use Rattle.event.specs.Valid.{Valid}
 use Rattle.event.proofs.ValidLaws.{valid}
-use Rattle.guard.proofs.RuleLaws.{rule-small, answer-refused, answer-named}
+use Rattle.guard.proofs.RuleLaws.{rule-small, answer-refused, answer-found}
 use borrow.Author.Needs.{needs}
 use Rattle.guard.proofs.rule.Statement.{statement}
 use Rattle.guard.proofs.rule.Tie as tie
@@ -32,7 +32,7 @@ cast-rule : tie.Need-cast-rule
 cast-rule c = let e = c .before in omega (arith, c .rule-number .ensures, rule-small (ok e .plan) (ok e .node-in) (e .before .before .before .args .code))
 
 returns-2 : tie.Need-returns-2
-returns-2 c = answer-named _ _ _ (c .before .before .validate .ensures) (c .before .if1 .left) (c .rule-number .ensures)
+returns-2 c = answer-found _ _ _ (c .before .before .validate .ensures) (c .before .if1 .left) (c .rule-number .ensures)
 
 pub rule-spec : {M : Type 1} → statement M
 rule-spec = tie.close (tie.spec validate-requires returns cast-rule-number cast-rule-number-2 rule-number-requires cast-rule returns-2)
