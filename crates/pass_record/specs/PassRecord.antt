@@ -1,4 +1,4 @@
--- The record of the single pass (rules F and G3) as one value: the number and every lent byte afterwards. Definitions only.
+-- The record of the single pass (rules F, G3 and G6) as one value: the number and every lent byte afterwards. Definitions only.
 use mathlib.Core.Bool.{cond, _&&_, not}
 use mathlib.Core.List.{List}
 use Prim.Native.Nat.{ℕ}
@@ -20,7 +20,7 @@ passRecordNumber p tab a m c =
     (cond (not (eqb (lentNumber p a m c) 0)) (lentNumber p a m c)
     (pass p a .number))
 
--- G3: the pass's marks, classed by the table; a refused call leaves marks and classes
+-- G3, G6: the pass's marks, classed by the table; a refused call leaves marks and classes
 unfoldable pub passRecordInto : List ℕ → List ℕ → List ℕ → List ℕ → List ℕ → Recorded
 passRecordInto p tab a m c =
     cond (not (eqb (passRecordNumber p tab a m c) 0)) (recorded (passRecordNumber p tab a m c) m c)
