@@ -175,9 +175,9 @@ uint32_t vulcedar_check_depths(const uint8_t *plan, size_t plan_len, uint8_t *de
 
 /*
  * Writes what an event waits for to the front of buf: the number of clauses; for each clause its number of events, then
- * code and node of each. A clause holds if one of its events is heard, the guard if all its clauses do. On 0 the value is
- * the guard's length and bits 8-15 are its rule; the bytes of buf behind the guard are left. 1 to 6, 8, 9, then 7 if buf
- * is too short for this guard.
+ * code and node of each. Any event of a clause that is heard satisfies the clause; the event may pass once every clause
+ * is satisfied. On 0 the value is the guard's length and bits 8-15 are its rule; the bytes of buf behind the guard are
+ * left. 1 to 6, 8, 9, then 7 if buf is too short for this guard.
  */
 uint32_t vulcedar_guard(const uint8_t *plan, size_t plan_len, uint32_t code, uint32_t node, uint8_t *buf, size_t buf_len);
 

@@ -1,4 +1,4 @@
--- The central rule (rules E): over the marks of all nodes, the yes-or-no answers and the picks. Definitions only.
+-- The central rule (rules E), which knows every mark, every answer and every pick, and no rows. Definitions only.
 use mathlib.Core.Bool.{Bool, true, false, cond, _&&_, _||_, not}
 use mathlib.Core.List.{List, [], _∷_}
 use Prim.Native.Nat.{ℕ}
@@ -83,7 +83,7 @@ isNo said-no = true
 abbrev pub marked : Central → Mark → ℕ → Bool
 marked s m v = isMark m (s .mark v)
 
--- E1: a node is started if its mark is not 0
+-- E1: any mark but 0 says that v is started
 abbrev pub started : Central → ℕ → Bool
 started s v = not (marked s idle v)
 

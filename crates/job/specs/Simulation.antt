@@ -105,7 +105,7 @@ unfoldable pub passedFrom : List ℕ → Layout → List ℕ → List Step → L
 passedFrom p lay st [] = []
 passedFrom p lay st (t ∷ ts) = passedOf t (stepNumber p lay st t) ++ passedFrom p lay (simulate p lay st t .state) ts
 
--- I3: the event that site q heard in it, one that passed there or of which a message to it passed
+-- I3: the event of which site q heard in it, by its own step or by a message
 unfoldable pub heardOf : List ℕ → Layout → ℕ → Step → ℕ → List Event
 heardOf p lay q (event code node) n = cond (eqb n 0 && eqb (siteOf p lay (eventOf code node)) q) (eventOf code node ∷ []) []
 heardOf p lay q (message code node r) n = cond (eqb n 0 && eqb r q) (eventOf code node ∷ []) []
