@@ -9,7 +9,7 @@ use borrow.Author.Tests.{eqb-true, eqb-false, ne-eqb}
 use Rattle.lists.proofs.Logic.{cases, decided}
 use Rattle.plan.specs.Plan.{Kind, task, serial, and, or, xor, contingency, conditional, waiting, kindNumber, isKind}
 use Rattle.pass.specs.Pass.{Outcome, works, breaks, fault, Tally, oneOrTwo, badAnswer, badPick, closes, goodMark, childMark, note, nothing, ending, endOf}
-use Rattle.pass.specs.Values.{outcomeOf, counted, soFar, comesTo, endsAs}
+use Rattle.pass.specs.Values.{outcomeOf, tallyOf, soFar, comesTo, endsAs}
 
 -- an end that is no fault's number
 pub worked-or-broke : (o : ℕ) → 3 ≤ o → o ≤ 4 → (o ≡ 3) ⊎ (o ≡ 4)
@@ -125,8 +125,8 @@ seen-end conditional x t e n h = rw (h .is, h .no-fault) (by-worked (t .worked))
 seen-end waiting x t e n h = rw (h .is, h .no-fault) (by-broke (t .broke))
 
 -- a child's mark asks for its place in an xor only
-pub mark-place : (k : Kind) (x n : ℕ) (t : Tally) (o : Outcome) → (isKind xor k ≡ true → n ≡ t .places) → childMark k x (counted n) o ≡ childMark k x t o
-unfolding childMark goodMark counted
+pub mark-place : (k : Kind) (x n : ℕ) (t : Tally) (o : Outcome) → (isKind xor k ≡ true → n ≡ t .places) → childMark k x (tallyOf n) o ≡ childMark k x t o
+unfolding childMark goodMark tallyOf
 mark-place k x n t works h = go (isKind xor k) refl
   where
     go : (b : Bool) → isKind xor k ≡ b → goodMark k x (suc n) ≡ goodMark k x (suc (t .places))

@@ -12,7 +12,7 @@ use Rattle.lists.proofs.Between.{between}
 use Rattle.plan.specs.Plan.{task, serial, xor, contingency, conditional, kindNumber, isKind, kindOf}
 use Rattle.plan.proofs.KindLaws.{is-kind, kind-other}
 use Rattle.pass.specs.Pass.{goodMark, childMark, oneOrTwo, badAnswer, nothing}
-use Rattle.pass.specs.Values.{outcomeOf, counted, soFar, saysNo, doneBy, endsAs}
+use Rattle.pass.specs.Values.{outcomeOf, tallyOf, soFar, saysNo, doneBy, endsAs}
 
 module _ (k a : ℕ) where
   pub answer-block : 2 ≤ k → k < 7 → 0 ≡ badAnswer (kindOf k) a
@@ -106,24 +106,24 @@ module _ (k : ℕ) where
 
     -- n is how many children are before it
     module _ (n : ℕ) where
-      mark-works : o ≡ 3 → childMark (kindOf k) a (counted n) (outcomeOf o) ≡ cond (eqb k 5 && not (eqb (n + 1) a)) 5 3
-      unfolding childMark goodMark counted outcomeOf
+      mark-works : o ≡ 3 → childMark (kindOf k) a (tallyOf n) (outcomeOf o) ≡ cond (eqb k 5 && not (eqb (n + 1) a)) 5 3
+      unfolding childMark goodMark tallyOf outcomeOf
       mark-works e = rw (e, is-xor, add-one)
 
-      pub mark-down : o ≡ 3 → k ≡ 5 → not (eqb (n + 1) a) ≡ true → 5 ≡ childMark (kindOf k) a (counted n) (outcomeOf o)
+      pub mark-down : o ≡ 3 → k ≡ 5 → not (eqb (n + 1) a) ≡ true → 5 ≡ childMark (kindOf k) a (tallyOf n) (outcomeOf o)
       mark-down e f h = sym (mark-works e ∙ rw (eq-eqb k 5 f, h))
 
-      pub mark-picked : o ≡ 3 → not (eqb (n + 1) a) ≡ false → 3 ≡ childMark (kindOf k) a (counted n) (outcomeOf o)
+      pub mark-picked : o ≡ 3 → not (eqb (n + 1) a) ≡ false → 3 ≡ childMark (kindOf k) a (tallyOf n) (outcomeOf o)
       mark-picked e h = sym (mark-works e ∙ rw (h, and-false (eqb k 5)))
 
-      pub mark-plain : o ≡ 3 → (k ≡ 5 → ⊥) → 3 ≡ childMark (kindOf k) a (counted n) (outcomeOf o)
+      pub mark-plain : o ≡ 3 → (k ≡ 5 → ⊥) → 3 ≡ childMark (kindOf k) a (tallyOf n) (outcomeOf o)
       mark-plain e m = sym (mark-works e ∙ rw (ne-eqb k 5 m))
 
-      pub mark-broke : o ≡ 4 → 4 ≡ childMark (kindOf k) a (counted n) (outcomeOf o)
+      pub mark-broke : o ≡ 4 → 4 ≡ childMark (kindOf k) a (tallyOf n) (outcomeOf o)
       unfolding childMark outcomeOf
       mark-broke e = rw e
 
-      pub mark-fault : (o ≡ 3 → ⊥) → (o ≡ 4 → ⊥) → 0 ≡ childMark (kindOf k) a (counted n) (outcomeOf o)
+      pub mark-fault : (o ≡ 3 → ⊥) → (o ≡ 4 → ⊥) → 0 ≡ childMark (kindOf k) a (tallyOf n) (outcomeOf o)
       unfolding childMark outcomeOf
       mark-fault e f = rw (ne-eqb o 3 e, ne-eqb o 4 f)
 

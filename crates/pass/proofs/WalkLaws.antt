@@ -12,7 +12,7 @@ use Rattle.lists.proofs.Logic.{cases, decided, and-left, and-right}
 use Rattle.plan.specs.Plan.{Kind, xor, conditional, kindNumber, isKind, kindOf, size}
 use Rattle.plan.proofs.PlanLaws.{Child}
 use Rattle.pass.specs.Pass.{Settled, Tally, Walked, goes, goesBy, skip, note, childMark, childSettled, meetBy, meet, walk, nothing, unwalked, badAnswer, endOf, close, settleIf, settleBy, settle}
-use Rattle.pass.specs.Values.{outcomeOf, counted, soFar, comesTo, saysNo, doneBy, endsAs, Ready, childrenFrom, ledTo, Settles}
+use Rattle.pass.specs.Values.{outcomeOf, tallyOf, soFar, comesTo, saysNo, doneBy, endsAs, Ready, childrenFrom, ledTo, Settles}
 use Rattle.pass.proofs.StateLaws.{note-places, Seen, seen-none, seen-more, Ends, seen-end, mark-place}
 use Rattle.pass.proofs.GoesLaws.{late, Over, end-late, fault-ends, over-fault, over-done, goes-on, begins-on}
 use Rattle.pass.proofs.TableLaws.{is-conditional}
@@ -178,7 +178,7 @@ module _ {p a f s m₀ : List ℕ} {v k x : ℕ} {m : List ℕ} {e n c : ℕ} (h
         (λ g. rw g (omega (arith, next-child (h .begun) c (h .child l .0) (eqb-false (getD s c 0) 0 g) .1, turn-bounds .within))))
 
     -- the child ended as o and left the marks m′, and its mark is y
-    module _ (o : ℕ) (m′ : List ℕ) (long : length m′ ≡ length m) (d : Settles p a m c m′ o) (y : ℕ) (mark : y ≡ childMark (kindOf k) x (counted n) (outcomeOf o)) where
+    module _ (o : ℕ) (m′ : List ℕ) (long : length m′ ≡ length m) (d : Settles p a m c m′ o) (y : ℕ) (mark : y ≡ childMark (kindOf k) x (tallyOf n) (outcomeOf o)) where
       abbrev t′ : Tally
       t′ = note x (h .tally) (outcomeOf o)
 

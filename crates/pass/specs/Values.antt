@@ -19,8 +19,8 @@ unfoldable pub taskEnd : ℕ → ℕ
 taskEnd a = cond (eqb a 1) 3 (cond (eqb a 2) 4 13)
 
 -- F2: so many children, of which nothing is known
-unfoldable pub counted : ℕ → Tally
-counted n = record { places = n; worked = false; broke = false; chosen = false; wrong = 0 }
+unfoldable pub tallyOf : ℕ → Tally
+tallyOf n = record { places = n; worked = false; broke = false; chosen = false; wrong = 0 }
 
 -- F3: what a block comes to by its tally: 3 it works, 4 it breaks, 5 children of an xor offer, but not the picked one
 unfoldable pub soFar : Kind → Tally → ℕ

@@ -9,7 +9,7 @@ ghost use lib.ListN.{replicate};
 ghost use Rattle.plan.specs.Plan.{kindOf};
 ghost use Rattle.plan.specs.Check.{Accepted};
 ghost use Rattle.pass.specs.Pass.{badAnswer, childMark, nothing, passResult, passInto};
-ghost use Rattle.pass.specs.Values.{outcomeOf, taskEnd, counted, soFar, comesTo, saysNo, doneBy, endsAs, Ready, Linked, Settles};
+ghost use Rattle.pass.specs.Values.{outcomeOf, taskEnd, tallyOf, soFar, comesTo, saysNo, doneBy, endsAs, Ready, Linked, Settles};
 
 // The fault of a node's answer that is found before its children, or 0.
 fn bad_answer(kind: u8, answer: u8) -> u8
@@ -41,7 +41,7 @@ fn task_end(answer: u8) -> u8
 // The mark of a child that ended so, behind so many others.
 fn child_mark(kind: u8, answer: u8, places: u8, o: u8) -> u8
     requires { ⌜ places < 255 ⌝ }
-    ensures { λ r. ⌜ r ≡ childMark (kindOf kind) answer (counted places) (outcomeOf o) ⌝ }
+    ensures { λ r. ⌜ r ≡ childMark (kindOf kind) answer (tallyOf places) (outcomeOf o) ⌝ }
 {
     match o {
         3 => {
