@@ -1,5 +1,5 @@
 /*
- * Vulcedar 1.0.0: jobs that follow a plan, decided by the sites that do the work.
+ * Vulcedar 1.1.0: jobs that follow a plan, decided by the sites that do the work.
  *
  * A plan is a tree of tasks and blocks. Every node has a site; a site keeps one row of bytes, what it has heard, and
  * decides the events of its node from that row alone. This header is all that a host needs; docs/GUIDE.md shows how a
@@ -18,6 +18,15 @@
  * is zeros. A row has one owner at a time: two calls on the same row must not run at once, and between them nothing but
  * these calls may write it.
  *
+ * JOURNALS. A list of entries (vulcedar_entry) and a count, both lent by the host: the first entries, as many as the count
+ * says, are the steps of a simulation that were kept and not taken back, oldest first. A fresh journal has count 0 and
+ * entries of any bytes, and goes with a state of zeros. While nothing but vulcedar_keep and vulcedar_undo, with one plan,
+ * writes state, entries and count, the state is the one that the steps in the journal give from zeros by vulcedar_simulate,
+ * and each of them passes there. A step on a full journal is refused with 7: lend a longer list with the same entries in
+ * front, and call again; nothing else changes. The entries are the host's to store and to send, four bytes each.
+ * vulcedar_undo believes them: it cannot know whether a simulation kept an entry. So keep the steps of a journal that comes
+ * from elsewhere anew, from a state of zeros.
+ *
  * RECORDS. Every node's mark (enum vulcedar_mark) and class (enum vulcedar_class, how long its work is kept). A block has
  * no class. A task's class is what a table has for the mark as which the task counts: its own mark, unless it committed;
  * a committed task counts as turned down if a block above it (its parent, and so on up to the root) failed or was turned
@@ -34,14 +43,15 @@
  *   bits 8-15   VULCEDAR_SITE: the event's site; for vulcedar_guard, VULCEDAR_GUARD_RULE: the guard's rule
  *   bits 16-31  VULCEDAR_VALUE: what the call says there
  * Bits 8-15 are 0 also where they say nothing, and 0 is a site too, so let the number tell: a result of vulcedar_step, or
- * of vulcedar_simulate with an event, has a site if its number is VULCEDAR_PASSED, VULCEDAR_BARRED or VULCEDAR_UNMET, and
- * no other result has one.
+ * of vulcedar_simulate or vulcedar_keep with an event, has a site if its number is VULCEDAR_PASSED, VULCEDAR_BARRED or
+ * VULCEDAR_UNMET, and no other result has one.
  * The lowest number that fits is answered, unless a call says another order. A later version may have more numbers: take
  * a number that you do not know as a refusal. A refused call leaves every byte of every buffer as it was.
  *
- * CALLING. No call keeps or allocates anything; each may be called from any thread. Buffers of one call must not overlap,
- * and nobody else may write them during the call. A length says how many bytes behind the pointer are there; with length 0
- * nothing is read or written, and the pointer may be null. A call takes at most VULCEDAR_STACK_MOST bytes of stack,
+ * CALLING. No call allocates anything or remembers an earlier one; each may be called from any thread. Buffers of one call
+ * must not overlap, and nobody else may write them during the call. A length says how many bytes behind the pointer are
+ * there, entries_len how many entries; with length 0 nothing is read or written, and the pointer may be null. count points
+ * to a buffer too, of one number, and is never null. A call takes at most VULCEDAR_STACK_MOST bytes of stack,
  * vulcedar_rehearse at most VULCEDAR_REHEARSE_STACK_MOST (measured for the largest plans and texts).
  *
  * MACHINES. The library is compiled for x86-64 Linux with glibc (any x86-64 processor; position independent code). Of the
@@ -59,7 +69,7 @@ extern "C" {
 
 /* The version of this header. vulcedar_version() is that of the library that is linked. */
 #define VULCEDAR_VERSION_MAJOR 1
-#define VULCEDAR_VERSION_MINOR 0
+#define VULCEDAR_VERSION_MINOR 1
 #define VULCEDAR_VERSION_PATCH 0
 #define VULCEDAR_VERSION (65536u * VULCEDAR_VERSION_MAJOR + 256u * VULCEDAR_VERSION_MINOR + VULCEDAR_VERSION_PATCH)
 
@@ -103,22 +113,23 @@ enum vulcedar_class {
 
 enum vulcedar_number {
     VULCEDAR_PASSED = 0,
-    VULCEDAR_BAD_LENGTH = 1,     /* the plan has no byte, an odd number of them, or more than 320 */
-    VULCEDAR_BAD_KIND = 2,       /* a node's kind is none */
-    VULCEDAR_BAD_PARENT = 3,     /* the root has a parent, or a node's parent does not stand before it */
-    VULCEDAR_TASK_PARENT = 4,    /* a task has a child */
-    VULCEDAR_BAD_CHILDREN = 5,   /* a block has too few or too many children */
-    VULCEDAR_TOO_DEEP = 6,       /* a node lies deeper than 32 */
-    VULCEDAR_BAD_BUFFER = 7,     /* a buffer has not the length that the call says */
-    VULCEDAR_NOT_IN_PLAN = 8,    /* there is no such code, or the plan has no such node or site */
-    VULCEDAR_NOT_APPLICABLE = 9, /* the node has no such event */
-    VULCEDAR_BARRED = 10,        /* it happened already, or something that rules it out did; this will not change */
-    VULCEDAR_UNMET = 11,         /* the site has not heard all that the event waits for; this may change */
-    VULCEDAR_NOT_HAPPENED = 12,  /* simulation: the message tells of something that did not happen */
-    VULCEDAR_BAD_ANSWER = 13,    /* pass: a task or a conditional that it comes to has another answer than 1 and 2 */
-    VULCEDAR_BAD_PICK = 14,      /* pass: an xor's answer names no child that offers though one does, or names one though none does */
-    VULCEDAR_BAD_TEXT = 15,      /* the text of a simulation is not one */
-    VULCEDAR_BAD_TABLE = 21      /* the table of classes is not one; found before the plan's own numbers */
+    VULCEDAR_BAD_LENGTH = 1,       /* the plan has no byte, an odd number of them, or more than 320 */
+    VULCEDAR_BAD_KIND = 2,         /* a node's kind is none */
+    VULCEDAR_BAD_PARENT = 3,       /* the root has a parent, or a node's parent does not stand before it */
+    VULCEDAR_TASK_PARENT = 4,      /* a task has a child */
+    VULCEDAR_BAD_CHILDREN = 5,     /* a block has too few or too many children */
+    VULCEDAR_TOO_DEEP = 6,         /* a node lies deeper than 32 */
+    VULCEDAR_BAD_BUFFER = 7,       /* a buffer has not the length that the call says, or a journal is full */
+    VULCEDAR_NOT_IN_PLAN = 8,      /* there is no such code, or the plan has no such node or site */
+    VULCEDAR_NOT_APPLICABLE = 9,   /* the node has no such event */
+    VULCEDAR_BARRED = 10,          /* it happened already, or something that rules it out did; this will not change, unless by vulcedar_undo */
+    VULCEDAR_UNMET = 11,           /* the site has not heard all that the event waits for; this may change */
+    VULCEDAR_NOT_HAPPENED = 12,    /* simulation: the message tells of something that did not happen */
+    VULCEDAR_BAD_ANSWER = 13,      /* pass: a task or a conditional that it comes to has another answer than 1 and 2 */
+    VULCEDAR_BAD_PICK = 14,        /* pass: an xor's answer names no child that offers though one does, or names one though none does */
+    VULCEDAR_BAD_TEXT = 15,        /* the text of a simulation is not one */
+    VULCEDAR_NOTHING_TO_UNDO = 16, /* the journal has no step left to take back */
+    VULCEDAR_BAD_TABLE = 21        /* the table of classes is not one; found before the plan's own numbers */
 };
 
 /* The parts of a result r, a uint32_t. */
@@ -126,7 +137,7 @@ enum vulcedar_number {
 #define VULCEDAR_SITE(r) ((r) >> 8 & 0xffu)
 #define VULCEDAR_VALUE(r) ((r) >> 16)
 
-/* The rule in a result of vulcedar_rule, and in one of vulcedar_step or vulcedar_simulate whose event passed. */
+/* The rule in a result of vulcedar_rule, and in one of vulcedar_step, vulcedar_simulate or vulcedar_keep whose event passed. */
 #define VULCEDAR_RULE(r) ((r) >> 16 & 0xffu)
 
 /* The rule in a result of vulcedar_guard that passed. */
@@ -135,7 +146,7 @@ enum vulcedar_number {
 /* The parent byte of the root. */
 #define VULCEDAR_NO_PARENT 0xffu
 
-/* The site of vulcedar_simulate that stands for "the event happens". */
+/* The site of vulcedar_simulate, of vulcedar_keep and of an entry that stands for "the event happens". */
 #define VULCEDAR_HAPPENS 0xffu
 
 /* Limits. No guard has more bytes than VULCEDAR_GUARD_MOST. */
@@ -217,6 +228,31 @@ uint32_t vulcedar_pass(const uint8_t *plan, size_t plan_len, const uint8_t *answ
  */
 uint32_t vulcedar_simulate(const uint8_t *plan, size_t plan_len, uint32_t code, uint32_t node, uint32_t site, uint8_t *state,
                            size_t state_len);
+
+/* A step that was kept. */
+typedef struct vulcedar_entry {
+    uint8_t code, node; /* of the event that happened or was told */
+    uint8_t site;       /* the site that was told; VULCEDAR_HAPPENS for the event itself */
+    uint8_t changed;    /* 1 if the step set its bit; 0 if the bit was set before, as by a message that is a repeat */
+} vulcedar_entry;
+
+/*
+ * A step of a simulation that is kept in a journal. While the journal has a place left, it answers as vulcedar_simulate does
+ * and leaves the state so; if it passes, its entry is written at place *count, and *count is one more. Other entries are
+ * left. 1 to 12, where 7 also says that the journal is full (*count is entries_len) or that *count is above entries_len.
+ */
+uint32_t vulcedar_keep(const uint8_t *plan, size_t plan_len, uint32_t code, uint32_t node, uint32_t site, uint8_t *state,
+                       size_t state_len, vulcedar_entry *entries, size_t entries_len, size_t *count);
+
+/*
+ * Takes back the last step of a journal, the entry at place *count - 1: *count is one less, and unless changed is 0 the
+ * step's bit is cleared, in the row of the event's own site if the entry's site is VULCEDAR_HAPPENS, else in the row of the
+ * site that was told. A repeat is a step too: nothing is cleared for it. The entries are left; the next step that is kept
+ * takes the place. The result is the number alone: 1 to 7, where 7 also says that *count is above entries_len; then 16 if
+ * *count is 0; then 8 or 9 for the entry's code, node and site.
+ */
+uint32_t vulcedar_undo(const uint8_t *plan, size_t plan_len, uint8_t *state, size_t state_len, const vulcedar_entry *entries,
+                       size_t entries_len, size_t *count);
 
 /*
  * The record of a simulation, or of all rows side by side: every node's mark by its own site's row, and its class by the

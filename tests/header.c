@@ -1,6 +1,7 @@
 /*
  * What include/vulcedar.h and docs/GUIDE.md say about calling, tried: null pointers with length 0, where a result has a
- * site, the rule beside a guard, the common table, the version, and what a false message does. Compiled as C and as C++.
+ * site, the rule beside a guard, the common table, the version, a journal, and what a false message does. Compiled as C and
+ * as C++.
  */
 #include <inttypes.h>
 #include <stdio.h>
@@ -27,6 +28,8 @@ static void nulls(void)
     static const uint8_t plan[] = { VULCEDAR_TASK, VULCEDAR_NO_PARENT };
     static const uint8_t table[] = VULCEDAR_COMMON_TABLE;
     static const uint8_t text[] = { '0', '1', 'f', 'f', '\n', '-', '-', '\n' };
+    uint8_t state[1] = { 0 };
+    size_t count = 0;
     expect("check of nothing", vulcedar_check(NULL, 0), VULCEDAR_BAD_LENGTH);
     expect("rewrite of nothing", vulcedar_rewrite(NULL, 0, NULL, 0), VULCEDAR_BAD_LENGTH);
     expect("depths of nothing", vulcedar_check_depths(NULL, 0, NULL, 0), VULCEDAR_BAD_LENGTH);
@@ -36,6 +39,8 @@ static void nulls(void)
     expect("hear of nothing", vulcedar_hear(NULL, 0, VULCEDAR_START, 0, NULL, 0), VULCEDAR_BAD_LENGTH);
     expect("pass of nothing", vulcedar_pass(NULL, 0, NULL, 0, NULL, 0), VULCEDAR_BAD_LENGTH);
     expect("simulate of nothing", vulcedar_simulate(NULL, 0, VULCEDAR_START, 0, 0, NULL, 0), VULCEDAR_BAD_LENGTH);
+    expect("keep of nothing", vulcedar_keep(NULL, 0, VULCEDAR_START, 0, 0, NULL, 0, NULL, 0, &count), VULCEDAR_BAD_LENGTH);
+    expect("undo of nothing", vulcedar_undo(NULL, 0, NULL, 0, NULL, 0, &count), VULCEDAR_BAD_LENGTH);
     expect("record of nothing", vulcedar_record(NULL, 0, NULL, 0, NULL, 0, NULL, 0), VULCEDAR_BAD_LENGTH);
     expect("central of nothing", vulcedar_central(NULL, 0, VULCEDAR_START, 0, NULL, 0, NULL, 0), VULCEDAR_BAD_LENGTH);
     expect("table of nothing", vulcedar_check_table(NULL, 0), VULCEDAR_BAD_TABLE);
@@ -53,6 +58,10 @@ static void nulls(void)
     expect("hear on nothing", vulcedar_hear(plan, sizeof plan, VULCEDAR_START, 0, NULL, 0), VULCEDAR_BAD_BUFFER);
     expect("pass without answers", vulcedar_pass(plan, sizeof plan, NULL, 0, NULL, 0), VULCEDAR_BAD_BUFFER);
     expect("simulate on nothing", vulcedar_simulate(plan, sizeof plan, VULCEDAR_START, 0, VULCEDAR_HAPPENS, NULL, 0), VULCEDAR_BAD_BUFFER);
+    expect("keep on nothing", vulcedar_keep(plan, sizeof plan, VULCEDAR_START, 0, VULCEDAR_HAPPENS, NULL, 0, NULL, 0, &count), VULCEDAR_BAD_BUFFER);
+    expect("keep in no journal", vulcedar_keep(plan, sizeof plan, VULCEDAR_START, 0, VULCEDAR_HAPPENS, state, 1, NULL, 0, &count), VULCEDAR_BAD_BUFFER);
+    expect("undo on nothing", vulcedar_undo(plan, sizeof plan, NULL, 0, NULL, 0, &count), VULCEDAR_BAD_BUFFER);
+    expect("undo in no journal", vulcedar_undo(plan, sizeof plan, state, 1, NULL, 0, &count), VULCEDAR_NOTHING_TO_UNDO);
     expect("record of no state", vulcedar_record(plan, sizeof plan, NULL, 0, NULL, 0, NULL, 0), VULCEDAR_BAD_BUFFER);
     expect("central on nothing", vulcedar_central(plan, sizeof plan, VULCEDAR_START, 0, NULL, 0, NULL, 0), VULCEDAR_BAD_BUFFER);
     expect("record by table of no state", vulcedar_record_by(plan, sizeof plan, table, sizeof table, NULL, 0, NULL, 0, NULL, 0), VULCEDAR_BAD_BUFFER);
@@ -83,6 +92,97 @@ static void parts(void)
             if (VULCEDAR_NUMBER(rule) == VULCEDAR_PASSED) expect("rule of a guard", VULCEDAR_GUARD_RULE(guard), VULCEDAR_RULE(rule));
             else expect("refused guard", guard, rule);
         }
+}
+
+/* An xor of two tasks, and what its journal's calls are lent; of the entries, the first `room`. */
+static const uint8_t chosen[] = { VULCEDAR_XOR, VULCEDAR_NO_PARENT, VULCEDAR_TASK, 0, VULCEDAR_TASK, 0 };
+static struct { uint8_t state[9]; vulcedar_entry entries[6]; size_t room, count; } journal;
+
+static uint32_t keep(uint32_t code, uint32_t node, uint32_t site)
+{
+    return vulcedar_keep(chosen, sizeof chosen, code, node, site, journal.state, sizeof journal.state, journal.entries, journal.room, &journal.count);
+}
+
+static uint32_t undo(void) { return vulcedar_undo(chosen, sizeof chosen, journal.state, sizeof journal.state, journal.entries, journal.room, &journal.count); }
+
+/* How many steps are kept, and the bytes of one entry. */
+static void expect_entry(const char *what, size_t kept, size_t place, uint32_t code, uint32_t node, uint32_t site, uint32_t changed)
+{
+    const vulcedar_entry e = journal.entries[place];
+    expect(what, journal.count == kept && e.code == code && e.node == node && e.site == site && e.changed == changed, 1);
+}
+
+static void kept(void)
+{
+    journal.room = 3;
+    memset(journal.entries, 0xee, sizeof journal.entries);
+    expect("the bytes of an entry", sizeof(vulcedar_entry) == 4 && offsetof(vulcedar_entry, node) == 1 && offsetof(vulcedar_entry, site) == 2 && offsetof(vulcedar_entry, changed) == 3, 1);
+    expect("undo of a fresh journal", undo(), VULCEDAR_NOTHING_TO_UNDO);
+    expect("early kept start", keep(VULCEDAR_START, 1, VULCEDAR_HAPPENS), result(VULCEDAR_UNMET, 1, 0));
+    expect_entry("nothing kept", 0, 0, 0xee, 0xee, 0xee, 0xee);
+    expect("kept start", keep(VULCEDAR_START, 0, VULCEDAR_HAPPENS), result(VULCEDAR_PASSED, 0, 0x01));
+    expect_entry("its entry", 1, 0, VULCEDAR_START, 0, VULCEDAR_HAPPENS, 1);
+    expect("second kept start", keep(VULCEDAR_START, 0, VULCEDAR_HAPPENS), result(VULCEDAR_BARRED, 0, 0));
+    expect("kept message", keep(VULCEDAR_START, 0, 1), result(VULCEDAR_PASSED, 0, 0));
+    expect_entry("its entry", 2, 1, VULCEDAR_START, 0, 1, 1);
+    expect("false message", keep(VULCEDAR_START, 1, 0), result(VULCEDAR_NOT_HAPPENED, 0, 0));
+    expect("kept repeat", keep(VULCEDAR_START, 0, 1), result(VULCEDAR_PASSED, 0, 0));
+    expect_entry("its entry", 3, 2, VULCEDAR_START, 0, 1, 0);
+    expect("start in a full journal", keep(VULCEDAR_START, 1, VULCEDAR_HAPPENS), VULCEDAR_BAD_BUFFER);
+    expect("no code in a full journal", keep(9, 1, VULCEDAR_HAPPENS), VULCEDAR_BAD_BUFFER);
+    expect_entry("a full journal is left", 3, 2, VULCEDAR_START, 0, 1, 0);
+}
+
+/* From there: the repeat is taken back, its place is used, a longer list is lent, and all is taken back. */
+static void taken_back(void)
+{
+    static const uint8_t zeros[sizeof journal.state] = { 0 };
+    expect("undo of the repeat", undo(), VULCEDAR_PASSED);
+    expect_entry("its entry is left", 2, 2, VULCEDAR_START, 0, 1, 0);
+    expect("kept start of 1", keep(VULCEDAR_START, 1, VULCEDAR_HAPPENS), result(VULCEDAR_PASSED, 1, 0x51));
+    expect_entry("in the repeat's place", 3, 2, VULCEDAR_START, 1, VULCEDAR_HAPPENS, 1);
+    journal.room = 6;
+    expect("kept offer in a longer list", keep(VULCEDAR_OFFER, 1, VULCEDAR_HAPPENS), result(VULCEDAR_PASSED, 1, 0x12));
+    expect("kept message of it", keep(VULCEDAR_OFFER, 1, 0), VULCEDAR_PASSED);
+    expect("kept pick", keep(VULCEDAR_PICK, 1, VULCEDAR_HAPPENS), result(VULCEDAR_PASSED, 0, 0x57));
+    expect("its bit at the parent's site", journal.state[1], 1u << (VULCEDAR_OFFER - 1) | 1u << (VULCEDAR_PICK - 1));
+    expect("undo of the pick", undo(), VULCEDAR_PASSED);
+    expect("its bit is cleared", journal.state[1], 1u << (VULCEDAR_OFFER - 1));
+    for (uint32_t left = 5; left > 0; left--) expect("undo", undo(), VULCEDAR_PASSED);
+    expect("undo of none", undo(), VULCEDAR_NOTHING_TO_UNDO);
+    expect("the state and the count of the beginning", memcmp(journal.state, zeros, sizeof journal.state) == 0 && journal.count == 0, 1);
+}
+
+/* Entries and counts that no simulation left. */
+static void foreign(void)
+{
+    static const struct { vulcedar_entry last; uint32_t number; } lent[] = {
+        { { 0, 0, VULCEDAR_HAPPENS, 1 }, VULCEDAR_NOT_IN_PLAN }, { { 9, 0, VULCEDAR_HAPPENS, 1 }, VULCEDAR_NOT_IN_PLAN },
+        { { VULCEDAR_START, 3, VULCEDAR_HAPPENS, 1 }, VULCEDAR_NOT_IN_PLAN }, { { VULCEDAR_START, 0, 3, 0 }, VULCEDAR_NOT_IN_PLAN },
+        { { VULCEDAR_YES, 0, VULCEDAR_HAPPENS, 0 }, VULCEDAR_NOT_APPLICABLE }, { { VULCEDAR_PICK, 0, 1, 1 }, VULCEDAR_NOT_APPLICABLE },
+    };
+    static const vulcedar_entry two = { VULCEDAR_ABORT, 2, 1, 2 };
+    memset(journal.state, 0xff, sizeof journal.state);
+    for (size_t i = 0; i < sizeof lent / sizeof lent[0]; i++) {
+        journal.count = 1;
+        journal.entries[0] = lent[i].last;
+        expect("undo of a foreign entry", undo(), lent[i].number);
+        journal.count = 0;
+        expect("undo of none before it", undo(), VULCEDAR_NOTHING_TO_UNDO);
+    }
+    for (size_t above = 0; above < 2; above++) {
+        journal.count = above == 0 ? journal.room + 1 : SIZE_MAX;
+        expect("undo of more than there are", undo(), VULCEDAR_BAD_BUFFER);
+        expect("keep behind more than there are", keep(VULCEDAR_START, 0, 1), VULCEDAR_BAD_BUFFER);
+    }
+    for (size_t i = 0; i < sizeof journal.state; i++) expect("the state is left", journal.state[i], 0xff);
+    /* changed 2 is read as 1, and a bit that is not set stays so */
+    journal.entries[0] = two;
+    for (uint32_t twice = 0; twice < 2; twice++) {
+        journal.count = 1;
+        expect("undo of a foreign message", undo(), VULCEDAR_PASSED);
+        expect("its bit", journal.state[5], 0xff - (1u << (VULCEDAR_ABORT - 1)));
+    }
 }
 
 /* The common table: what a record has without one. */
@@ -133,8 +233,11 @@ int main(void)
     expect("the version", vulcedar_version(), VULCEDAR_VERSION);
     nulls();
     parts();
+    kept();
+    taken_back();
+    foreign();
     tables();
     false_message();
-    if (wrong == 0) printf("header: nulls, parts of results, tables, the version and a false message are as it says\n");
+    if (wrong == 0) printf("header: nulls, parts of results, a journal, tables, the version and a false message are as it says\n");
     return wrong == 0 ? 0 : 1;
 }

@@ -1,7 +1,8 @@
 /*
  * How much stack a call takes: every exported function is called on a painted stack of its own, for plans of 160 nodes as
- * deep and as wide as they may be, and for every event of them. Prints the deepest of each function; fails if one is
- * above what the header says. Symbols must be bound beforehand (-Wl,-z,now): the loader's own stack is not the library's.
+ * deep and as wide as they may be, and for every event of them, refused and passed. Prints the deepest of each function;
+ * fails if one is above what the header says. Symbols must be bound beforehand (-Wl,-z,now): the loader's own stack is not
+ * the library's.
  */
 #define _GNU_SOURCE
 #include <stdio.h>
@@ -16,7 +17,8 @@ enum { NODES = VULCEDAR_NODES_MOST };
 
 static uint8_t plan[2 * NODES], row[NODES], marks[NODES], notes[NODES], classes[NODES], answers[NODES], out[2 * NODES];
 static uint8_t state[NODES * NODES], buf[VULCEDAR_GUARD_MOST], text[VULCEDAR_TEXT_MOST], printed[VULCEDAR_PRINTED_MOST];
-static size_t text_len;
+static size_t text_len, fresh, one;
+static vulcedar_entry kept[1], event[1], message[1];
 static const uint8_t table[] = VULCEDAR_COMMON_TABLE;
 static uint32_t nodes, code, node, answer;
 
@@ -32,6 +34,10 @@ static void hear(void) { answer = vulcedar_hear(plan, 2 * nodes, code, node, row
 static void pass(void) { answer = vulcedar_pass(plan, 2 * nodes, answers, nodes, marks, nodes); }
 static void happen(void) { answer = vulcedar_simulate(plan, 2 * nodes, code, node, VULCEDAR_HAPPENS, state, nodes * nodes); }
 static void tell(void) { answer = vulcedar_simulate(plan, 2 * nodes, code, node, 0, state, nodes * nodes); }
+static void keep_event(void) { answer = vulcedar_keep(plan, 2 * nodes, code, node, VULCEDAR_HAPPENS, state, nodes * nodes, kept, 1, &fresh); }
+static void keep_message(void) { answer = vulcedar_keep(plan, 2 * nodes, code, node, 0, state, nodes * nodes, kept, 1, &fresh); }
+static void undo_event(void) { answer = vulcedar_undo(plan, 2 * nodes, state, nodes * nodes, event, 1, &one); }
+static void undo_message(void) { answer = vulcedar_undo(plan, 2 * nodes, state, nodes * nodes, message, 1, &one); }
 static void record(void) { answer = vulcedar_record(plan, 2 * nodes, state, nodes * nodes, marks, nodes, classes, nodes); }
 static void record_by(void) { answer = vulcedar_record_by(plan, 2 * nodes, table, sizeof table, state, nodes * nodes, marks, nodes, classes, nodes); }
 static void central(void) { answer = vulcedar_central(plan, 2 * nodes, code, node, marks, nodes, notes, nodes); }
@@ -44,6 +50,8 @@ static struct call { const char *name; void (*run)(void); int events; size_t mos
     { "check", check, 0, 0 }, { "rewrite", rewrite, 0, 0 }, { "check_depths", check_depths, 0, 0 },
     { "guard", guard, 1, 0 }, { "guard (short buffer)", short_guard, 1, 0 }, { "rule", rule, 1, 0 }, { "step", step, 1, 0 },
     { "hear", hear, 1, 0 }, { "pass", pass, 0, 0 }, { "simulate (event)", happen, 1, 0 }, { "simulate (message)", tell, 1, 0 },
+    { "keep (event)", keep_event, 1, 0 }, { "keep (message)", keep_message, 1, 0 },
+    { "undo (event)", undo_event, 1, 0 }, { "undo (message)", undo_message, 1, 0 },
     { "record", record, 0, 0 }, { "record_by", record_by, 0, 0 }, { "central", central, 1, 0 },
     { "check_table", check_table, 0, 0 }, { "pass_record", pass_record, 0, 0 }, { "version", version, 0, 0 }, { "rehearse", rehearse, 0, 0 },
 };
@@ -70,9 +78,29 @@ static size_t touched(void (*run)(void))
     return (words - i) * sizeof(uint64_t);
 }
 
-static void measure(struct call *c, size_t none)
+/* What a site has heard: nothing, everything, or all but what bars the event, so that most events pass. */
+enum heard { NOTHING, ALL, OTHERS };
+
+static void lend(enum heard heard)
 {
+    int b = heard == NOTHING ? 0 : 0xff;
+    memset(row, b, nodes);
+    memset(state, b, nodes * nodes);
+    if (heard == OTHERS) row[node] = state[node * nodes + node] = 1u << (VULCEDAR_START - 1);
+    memset(marks, heard == NOTHING ? 0 : VULCEDAR_COMMITTED, nodes);
+    memset(notes, 0, nodes);
+    memset(answers, heard == NOTHING ? 1 : 2, nodes);
+    fresh = 0;
+    one = 1;
+    event[0] = (vulcedar_entry){ (uint8_t)code, (uint8_t)node, VULCEDAR_HAPPENS, 1 };
+    message[0] = (vulcedar_entry){ (uint8_t)code, (uint8_t)node, 0, 1 };
+}
+
+static void measure(struct call *c, size_t none, enum heard heard)
+{
+    lend(heard);
     c->run(); /* once outside, so that nothing is done for the first time */
+    lend(heard);
     size_t n = touched(c->run) - none;
     if (n > c->most) c->most = n;
 }
@@ -126,15 +154,9 @@ static void measure_plan(size_t none)
     r = vulcedar_rehearse(text, text_len, printed, sizeof printed);
     if (VULCEDAR_NUMBER(r) != VULCEDAR_PASSED) printf("stack: a text is refused with %u\n", VULCEDAR_NUMBER(r)), exit(1);
     for (size_t c = 0; c < CALLS; c++)
-        for (uint32_t full = 0; full < 2; full++)
-            for (node = 0; node < (calls[c].events ? nodes : 1); node++)
-                for (code = 1; code <= (calls[c].events ? 8 : 1); code++) {
-                    memset(row, full ? 0xff : 0, nodes);
-                    memset(state, full ? 0xff : 0, nodes * nodes);
-                    memset(marks, full ? VULCEDAR_COMMITTED : 0, nodes);
-                    memset(answers, full ? 2 : 1, nodes);
-                    measure(&calls[c], none);
-                }
+        for (node = 0; node < (calls[c].events ? nodes : 1); node++)
+            for (code = 1; code <= (calls[c].events ? 8 : 1); code++)
+                for (int heard = NOTHING; heard <= OTHERS; heard++) measure(&calls[c], none, (enum heard)heard);
 }
 
 int main(void)

@@ -8,7 +8,7 @@ use Rattle.plan.specs.Plan.{kindNumber, isKind, kindOf, size, kindByte, kind, p
 use Rattle.plan.specs.Check.{lengthOk, kindOk, parentOk, underBlock, fits, countOk, depthOk, atAll, checkNumber, fitNumber}
 use Rattle.event.specs.Event.{start, offer, commit, pick, down, codeNumber, codeOf, isCode, Event, at, appliesBy, applies, known}
 use Rattle.event.specs.Bit.{weight, hasBit, withBit}
-use Rattle.event.specs.Valid.{invalid}
+use Rattle.event.specs.Valid.{eventFault, invalid}
 use Rattle.central.specs.Mark.{markNumber, isMark, markOf}
 use Rattle.central.specs.Central.{markAfter, isYes, isNo, reachedBy, mayStart, ofBranch, finishesBy, failsBy, allowedBy, allowed}
 use Rattle.central.specs.Rule.{answerOf, stateOf, noted, marksAfter, notesAfter, Ruled, ruled, rightSize, ruleInvalid, ruleOn, ruleOf, rulingValue}
@@ -74,5 +74,5 @@ pub all-right :
     × (allAllowed plan run none none ≡ true)
     × (marksLeft plan run none none ≡ six 3 3 3 3 5 3)
     × (notesLeft plan run none none ≡ picked)
-unfolding plan six none offers picked case cases run allAllowed marksLeft notesLeft rulingValue ruleOf ruleInvalid rightSize ruleOn stateOf answerOf noted marksAfter notesAfter invalid known applies appliesBy isCode codeNumber codeOf weight hasBit withBit markNumber isMark markOf markAfter isYes isNo reachedBy mayStart ofBranch finishesBy failsBy allowedBy allowed fitNumber checkNumber lengthOk atAll kindOk parentOk underBlock fits countOk depthOk kindNumber isKind kindOf size kindByte kind parent childrenBelow children childCount others above inXor depthWithin depth all any keep upFrom allBelow earlier
+unfolding plan six none offers picked case cases run allAllowed marksLeft notesLeft rulingValue ruleOf ruleInvalid rightSize ruleOn stateOf answerOf noted marksAfter notesAfter eventFault invalid known applies appliesBy isCode codeNumber codeOf weight hasBit withBit markNumber isMark markOf markAfter isYes isNo reachedBy mayStart ofBranch finishesBy failsBy allowedBy allowed fitNumber checkNumber lengthOk atAll kindOk parentOk underBlock fits countOk depthOk kindNumber isKind kindOf size kindByte kind parent childrenBelow children childCount others above inXor depthWithin depth all any keep upFrom allBelow earlier
 all-right = (refl, refl, refl, refl)

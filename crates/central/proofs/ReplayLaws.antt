@@ -8,16 +8,16 @@ use lib.Dec.{eqb}
 use lib.ListN.{length, getD, replicate, length-set, length-replicate}
 use lib.Seq.{getD-set-same}
 use borrow.Author.Tests.{eqb-true, eqb-false, eq-eqb, ltb-true}
-use Rattle.lists.proofs.Logic.{cases, decided, and-left, and-right, and-join}
+use Rattle.lists.proofs.Logic.{cases, decided, and-left, and-right, and-join, clash}
 use Rattle.plan.specs.Plan.{size}
 use Rattle.plan.specs.Check.{Accepted}
-use Rattle.plan.proofs.Main.{check-exact}
+use Rattle.plan.proofs.Main.{fit-exact}
 use Rattle.event.specs.Event.{Code, answered-yes, answered-no, pick, codeNumber, Event, eventOf, applies, known}
 use Rattle.event.specs.Bit.{withBit}
 use Rattle.event.specs.Valid.{invalid}
 use Rattle.event.proofs.CodeLaws.{code-back, code-is}
 use Rattle.event.proofs.BitLaws.{with-small, no-bit}
-use Rattle.event.proofs.ValidLaws.{invalid-unknown, invalid-inapplicable, invalid-none}
+use Rattle.event.proofs.ValidLaws.{fault-none, invalid-fault, valid}
 use Rattle.central.specs.Mark.{markNumber, markOf}
 use Rattle.central.specs.Central.{fresh, after, allowed, runFrom, reaches}
 use Rattle.central.specs.Rule.{answerOf, stateOf, marksAfter, notesAfter, rightSize, ruled, rulingValue}
@@ -66,12 +66,12 @@ module _ (p : List ℕ) (ok : Accepted p) (marks notes : List ℕ) (proper : Pro
 
   applied : applies p e ≡ true → invalid p (rightSize p marks notes) true (codeNumber (e .code)) (e .node) ≡ 0
   unfolding applies known
-  applied h = invalid-none p _ true _ _ ((check-exact p) .1 ok) sized refl (and-join _ _ (code-is (e .code)) (and-left _ _ h)) (ap (applies p) same-event ∙ h)
+  applied h =
+      invalid-fault p _ true _ _ (fit-exact p _ .none .1 (ok, sized))
+      ∙ fault-none p true _ _ refl (and-join _ _ (code-is (e .code)) (and-left _ _ h)) (ap (applies p) same-event ∙ h)
 
   not-applied : applies p e ≡ false → invalid p (rightSize p marks notes) true (codeNumber (e .code)) (e .node) ≡ 0 → ⊥
-  not-applied h z = cases (decided (known p (codeNumber (e .code)) (e .node)))
-      (λ k. omega (arith, invalid-inapplicable p _ true _ _ ((check-exact p) .1 ok) sized refl k (ap (applies p) same-event ∙ h)))
-      (λ k. omega (arith, invalid-unknown p _ true _ _ ((check-exact p) .1 ok) sized k))
+  not-applied h z = clash (applies p e) (ap (applies p) (sym same-event) ∙ valid p _ true _ _ z .applied) h
 
   pub ask-allowed : allowed p (stateOf marks notes) e ≡ true → ask p e marks notes ≡ ruled (marksAfter (e .code) (e .node) marks) (notesAfter (e .code) (e .node) notes) Allowed
   unfolding allowed

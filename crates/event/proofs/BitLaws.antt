@@ -1,16 +1,16 @@
 -- Laws of a byte's bits, by tests that are computed over all bytes and codes. Assumes nothing.
 use mathlib.Core.Path.{_≡_, refl}
-use mathlib.Core.Bool.{Bool, true, false, _&&_, _||_, Bool·beq, false≢true}
+use mathlib.Core.Bool.{Bool, true, false, cond, _&&_, _||_, Bool·beq, false≢true}
 use Prim.Native.Nat.{ℕ, _+_, _*_, _-_, _^_, _%_, _≤_, _<_}
-use lib.Dec.{eqb, ltb}
-use borrow.Author.Tests.{ltb-true, eqb-true}
+use lib.Dec.{eqb, ltb, leb}
+use borrow.Author.Tests.{ltb-true, leb-true, eqb-true}
 use native.Mathlib.Omega.{arith}
 use Rattle.lists.specs.Seq.{all, upFrom}
 use Rattle.lists.proofs.Logic.{and-left, and-right}
 use Rattle.lists.proofs.Members.{all-at, in-up}
 use Rattle.event.specs.Event.{Code, start, offer, commit, abort, answered-yes, answered-no, pick, down, codeNumber, isCode, sameCode}
-use Rattle.event.specs.Bit.{weight, hasBit, withBit}
-use Rattle.event.proofs.CodeLaws.{codes, in-codes}
+use Rattle.event.specs.Bit.{weight, hasBit, withBit, withoutBit}
+use Rattle.event.proofs.CodeLaws.{codes, in-codes, code-range}
 
 pub beq-true : (a b : Bool) → Bool·beq a b ≡ true → a ≡ b
 beq-true true true h = refl
@@ -52,21 +52,41 @@ no-bit answered-no = refl
 no-bit pick = refl
 no-bit down = refl
 
--- a byte whose bit is not set has room for its weight, which is a 1 shifted
-roomy : ℕ → ℕ → Bool
-roomy k b = hasBit b k || (ltb (b + weight k) 256 && eqb (1 * 2 ^ (k - 1) % 256) (weight k))
+-- the weight is a 1 shifted; a byte whose bit is set has it, and one whose bit is not set has room for it and is had again by clearing the bit
+weighed : ℕ → ℕ → Bool
+weighed k b = eqb (1 * 2 ^ (k - 1) % 256) (weight k) && cond (hasBit b k) (leb (weight k) b) (ltb (b + weight k) 256 && eqb (withoutBit (withBit b k) k) b)
 
-rooms : all (λ k. all (roomy k) (upFrom 0 256)) (upFrom 1 8) ≡ true
-unfolding all upFrom roomy hasBit isCode weight
-rooms = refl
+all-weighed : all (λ k. all (weighed k) (upFrom 0 256)) (upFrom 1 8) ≡ true
+unfolding all upFrom weighed hasBit withBit withoutBit isCode weight
+all-weighed = refl
 
-module _ (b code : ℕ) (small : b < 256) (low : 1 ≤ code) (high : code ≤ 8) (unset : hasBit b code ≡ false) where
-  room : (ltb (b + weight code) 256 && eqb (1 * 2 ^ (code - 1) % 256) (weight code)) ≡ true
-  unfolding roomy
-  room = rw unset at (all-at (roomy code) (in-up 0 256 b (omega arith) small) (all-at (λ k. all (roomy k) (upFrom 0 256)) (in-up 1 8 code low (omega arith)) rooms))
-
-  pub with-fits : b + weight code < 256
-  with-fits = ltb-true _ _ (and-left _ _ room)
+module _ (b code : ℕ) (small : b < 256) (low : 1 ≤ code) (high : code ≤ 8) where
+  weighed-at : weighed code b ≡ true
+  weighed-at = all-at (weighed code) (in-up 0 256 b (omega arith) small) (all-at (λ k. all (weighed k) (upFrom 0 256)) (in-up 1 8 code low (omega arith)) all-weighed)
 
   pub shift-weight : 1 * 2 ^ (code - 1) % 256 ≡ weight code
-  shift-weight = eqb-true _ _ (and-right (ltb (b + weight code) 256) _ room)
+  unfolding weighed
+  shift-weight = eqb-true _ _ (and-left _ _ weighed-at)
+
+  weights : cond (hasBit b code) (leb (weight code) b) (ltb (b + weight code) 256 && eqb (withoutBit (withBit b code) code) b) ≡ true
+  unfolding weighed
+  weights = and-right (eqb (1 * 2 ^ (code - 1) % 256) (weight code)) _ weighed-at
+
+  pub bit-weight : hasBit b code ≡ true → weight code ≤ b
+  bit-weight h = leb-true _ _ (rw h at weights)
+
+  module _ (unset : hasBit b code ≡ false) where
+    apart : (ltb (b + weight code) 256 && eqb (withoutBit (withBit b code) code) b) ≡ true
+    apart = rw unset at weights
+
+    pub with-fits : b + weight code < 256
+    with-fits = ltb-true _ _ (and-left _ _ apart)
+
+    -- set and cleared again
+    pub with-without : withoutBit (withBit b code) code ≡ b
+    with-without = eqb-true _ _ (and-right (ltb (b + weight code) 256) _ apart)
+
+-- a bit that is set is a code's
+pub bit-code : (b code : ℕ) → hasBit b code ≡ true → (1 ≤ code) × (code ≤ 8)
+unfolding hasBit
+bit-code b code h = code-range code (and-left _ _ h)

@@ -15,3 +15,7 @@ hasBit b code = isCode code && eqb (b / weight code % 2) 1
 -- B5, H17: the byte with that bit set; one that is set stays as it is
 unfoldable pub withBit : ℕ → ℕ → ℕ
 withBit b code = cond (hasBit b code) b (cond (isCode code) (b + weight code) b)
+
+-- B5, L3: the byte with that bit cleared; one that is not set stays as it is
+unfoldable pub withoutBit : ℕ → ℕ → ℕ
+withoutBit b code = cond (hasBit b code) (b - weight code) b

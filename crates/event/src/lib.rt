@@ -1,12 +1,12 @@
 // Events of a plan: which are known and apply, at whose site they happen, their bits in a byte, and the tests with which every call on an
-// event begins. What the words mean is specs/; no public function has a `requires`.
+// event begins. What the words mean is specs/; one public function, `fault`, has a `requires`: its caller has checked the plan.
 ghost use mathlib.Core.Path.{_≡_};
 ghost use Prim.Native.Nat.{_<_, _≤_};
 ghost use Rattle.plan.specs.Plan.{kindOf, xor, isKind, size};
 ghost use Rattle.event.specs.Event.{codeOf, eventOf, appliesBy, applies, known};
 ghost use Rattle.event.specs.Site.{hostOf};
-ghost use Rattle.event.specs.Bit.{hasBit, withBit};
-ghost use Rattle.event.specs.Valid.{invalid};
+ghost use Rattle.event.specs.Bit.{hasBit, withBit, withoutBit};
+ghost use Rattle.event.specs.Valid.{eventFault, invalid};
 
 // By the code; a choice also by the parent's kind, an answer by the node's own.
 fn applies_by(code: u8, above: u8, kind: u8) -> bool
@@ -84,14 +84,21 @@ pub fn with_bit(b: u8, code: u8) -> u8
     b + (1 << (code - 1))
 }
 
-// The number of the first test that fails, and 0 where none does. `fits`: the lent lengths are right; `sited`: the site is in the plan.
-pub fn validate(plan: &[u8], fits: bool, sited: bool, code: u32, node: u32) -> u8
-    ensures { λ r. ⌜ r ≡ invalid (now (plan .entry)) fits sited code node ⌝ }
+// The byte with the bit of a code cleared.
+pub fn without_bit(b: u8, code: u8) -> u8
+    ensures { λ r. ⌜ r ≡ withoutBit b code ⌝ }
 {
-    let n = checker::fit(plan, fits);
-    if n != 0 {
-        return n;
+    if !has_bit(b, code) {
+        return b;
     }
+    b - (1 << (code - 1))
+}
+
+// What is wrong with the event itself: 8, 9, or 0 for nothing. `sited`: the site is in the plan, whose nodes a byte can number.
+pub fn fault(plan: &[u8], sited: bool, code: u32, node: u32) -> u8
+    requires { ⌜ size (now plan) ≤ 160 ⌝ }
+    ensures { λ r. ⌜ r ≡ eventFault (now (plan .entry)) sited code node ⌝ }
+{
     if !sited {
         return 8;
     }
@@ -102,4 +109,15 @@ pub fn validate(plan: &[u8], fits: bool, sited: bool, code: u32, node: u32) -> u
         return 9;
     }
     0
+}
+
+// The number of the first test that fails, and 0 where none does. `fits`: the lent lengths are right; `sited`: the site is in the plan.
+pub fn validate(plan: &[u8], fits: bool, sited: bool, code: u32, node: u32) -> u8
+    ensures { λ r. ⌜ r ≡ invalid (now (plan .entry)) fits sited code node ⌝ }
+{
+    let n = checker::fit(plan, fits);
+    if n != 0 {
+        return n;
+    }
+    fault(plan, sited, code, node)
 }

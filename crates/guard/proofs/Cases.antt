@@ -7,7 +7,7 @@ use Rattle.lists.specs.Seq.{keep, upFrom, allBelow}
 use Rattle.plan.specs.Plan.{kindNumber, isKind, kindOf, size, kindByte, kind, parent, childrenBelow, children, childCount, above, aboveByte, inXor, depthWithin, depth}
 use Rattle.plan.specs.Check.{lengthOk, kindOk, parentOk, underBlock, fits, countOk, depthOk, atAll, checkNumber, fitNumber}
 use Rattle.event.specs.Event.{codeNumber, codeOf, isCode, appliesBy, applies, known, commit, at}
-use Rattle.event.specs.Valid.{invalid}
+use Rattle.event.specs.Valid.{eventFault, invalid}
 use Rattle.guard.specs.Guard.{finishBy, finishing, guardBy, guard}
 use Rattle.guard.specs.Rule.{ruleKind, isPicked, ruleByte, ruleBytes, foundRule, ruleAnswer}
 use Rattle.guard.specs.Bytes.{encEvents, encClauses, encode}
@@ -56,7 +56,7 @@ everyRule =
 
 -- each is valid, and in this order they are the listed bytes
 pub every-byte : map (λ k. ruleAnswer (k .plan) (k .code) (k .node)) everyRule ≡ map (foundRule 0) ruleBytes
-unfolding everyRule rule pairOf offers ofKind tasks xorOf ruleAnswer ruleBytes ruleKind isPicked ruleByte aboveByte codeNumber codeOf isCode appliesBy applies known invalid
+unfolding everyRule rule pairOf offers ofKind tasks xorOf ruleAnswer ruleBytes ruleKind isPicked ruleByte aboveByte codeNumber codeOf isCode appliesBy applies known eventFault invalid
     kindNumber isKind kindOf size kindByte kind parent childrenBelow children childCount above inXor depthWithin depth keep upFrom allBelow lengthOk kindOk parentOk
     underBlock fits countOk depthOk atAll checkNumber fitNumber
 every-byte = refl

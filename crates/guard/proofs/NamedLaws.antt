@@ -1,16 +1,16 @@
 -- Laws of the nodes that a guard names: whose children they are, when it names any, and that its shape over them gives the guard. Assumes
 -- nothing.
 use mathlib.Core.Path.{_≡_, refl, sym, ap, _∙_}
-use mathlib.Core.Bool.{Bool, true, false, _&&_, _||_, not, and-false, false≢true}
+use mathlib.Core.Bool.{Bool, true, false, cond, _&&_, _||_, not, and-false, false≢true}
 use mathlib.Core.Logic.{⊎-elim}
 use mathlib.Core.List.{List, []}
 use Prim.Native.Nat.{ℕ, zero, suc, _≤_}
 use native.Mathlib.Omega.{arith}
-use borrow.Author.Tests.{ne-eqb, eqb-true, eqb-false, leb-true, leb-false}
+use borrow.Author.Tests.{ne-eqb, eqb-true, eqb-false, le-leb, leb-true, leb-false}
 use lib.Dec.{eqb, leb}
 use lib.ListN.{length}
 use Rattle.lists.specs.Seq.{lastOr}
-use Rattle.lists.proofs.Logic.{cases, decided, clash}
+use Rattle.lists.proofs.Logic.{cases, decided, clash, and-left, and-right, and-join}
 use Rattle.plan.specs.Plan.{Kind, task, serial, and, or, xor, contingency, conditional, waiting, kindNumber, isKind, kindOf, kindByte, kind, parent, children, above, aboveByte, inXor}
 use Rattle.plan.specs.Check.{Accepted}
 use Rattle.plan.proofs.KindLaws.{is-kind, kind-other, above-byte}
@@ -18,7 +18,7 @@ use Rattle.plan.proofs.AcceptedLaws.{child-between}
 use Rattle.event.specs.Event.{Code, start, offer, commit, abort, answered-yes, answered-no, pick, down, codeOf, eventOf}
 use Rattle.event.proofs.CodeLaws.{two, code-down}
 use Rattle.guard.specs.Guard.{beforeIn, startBy, finishBy, abortBy, finishing, aborting, guardBy, guard}
-use Rattle.guard.specs.Family.{family, familyParent, leftOut, inTurn, namesFamily, namedNodes, neighbour}
+use Rattle.guard.specs.Family.{family, familyParent, leftOut, inTurn, namesFamily, namedNodes, neighbour, namesOne}
 use Rattle.guard.specs.Shape.{shapeOf, guardShape, firstShape, laterShape, finishShape, abortShape}
 use Rattle.guard.specs.declared.table.Shape.{Shape}
 use Rattle.guard.proofs.Between.{in-between, not-between}
@@ -126,6 +126,73 @@ module _ (code k a : ℕ) where
   unfolding namesFamily
   names-down h = rw (code-down code h)
 
+-- when it goes by one of them
+module _ (code k a : ℕ) where
+  pub one-start : code ≡ 1 → {b : Bool} → b ≡ inTurn (kindOf a) → b ≡ namesOne (codeOf code) (kindOf k) (kindOf a)
+  unfolding codeOf namesOne
+  one-start e h = rw e h
+
+  pub one-offer : code ≡ 2 → eqb k 2 ≡ namesOne (codeOf code) (kindOf k) (kindOf a)
+  unfolding codeOf namesOne kindNumber
+  one-offer e = rw (e, is-kind serial k (omega arith))
+
+  pub one-commit : code ≡ 3 → (not (eqb a 5) && eqb k 2) ≡ namesOne (codeOf code) (kindOf k) (kindOf a)
+  unfolding codeOf namesOne kindNumber
+  one-commit e = rw (e, is-kind xor a (omega arith), is-kind serial k (omega arith))
+
+  pub one-abort : code ≡ 4 → eqb k 6 ≡ namesOne (codeOf code) (kindOf k) (kindOf a)
+  unfolding codeOf namesOne kindNumber
+  one-abort e = rw (e, is-kind contingency k (omega arith))
+
+pub one-other : (code : ℕ) (k a : Kind) → (1 ≤ code → code ≤ 4 → ⊥) → namesOne (codeOf code) k a ≡ false
+unfolding codeOf namesOne
+one-other code k a h = cases (decided (eqb code 5)) (λ e. rw (eqb-true code 5 e)) (λ m. let m5 = eqb-false code 5 m in
+    cases (decided (eqb code 6)) (λ e. rw (eqb-true code 6 e)) (λ m. let m6 = eqb-false code 6 m in
+    cases (decided (eqb code 7)) (λ e. rw (eqb-true code 7 e)) (λ m. let m7 = eqb-false code 7 m in
+    down-other (code-down code (λ l u. h l (omega arith))))))
+  where
+    down-other : codeOf code ≡ down → namesOne (codeOf code) k a ≡ false
+    down-other e = ap (λ c. namesOne c k a) e
+
+pub one-low : (code : ℕ) (k a : Kind) → namesOne (codeOf code) k a ≡ true → (1 ≤ code) × (code ≤ 4)
+one-low code k a h = cases (decided (leb 1 code && leb code 4))
+    (λ e. (leb-true 1 code (and-left _ _ e), leb-true code 4 (and-right (leb 1 code) _ e)))
+    (λ e. clash _ h (one-other code k a (λ l u. clash _ (and-join _ _ (le-leb 1 code l) (le-leb code 4 u)) e)))
+
+serial-block : (k : Kind) → isKind serial k ≡ true → not (isKind task k) ≡ true
+unfolding isKind kindNumber
+serial-block task h = absurd (false≢true h)
+serial-block serial h = refl
+serial-block and h = refl
+serial-block or h = refl
+serial-block xor h = refl
+serial-block contingency h = refl
+serial-block conditional h = refl
+serial-block waiting h = refl
+
+contingency-block : (k : Kind) → isKind contingency k ≡ true → not (isKind task k) ≡ true
+unfolding isKind kindNumber
+contingency-block task h = absurd (false≢true h)
+contingency-block serial h = refl
+contingency-block and h = refl
+contingency-block or h = refl
+contingency-block xor h = refl
+contingency-block contingency h = refl
+contingency-block conditional h = refl
+contingency-block waiting h = refl
+
+-- a guard that goes by one of a family names the family
+pub one-family : (c : Code) (k a : Kind) → namesOne c k a ≡ true → namesFamily c k a ≡ true
+unfolding namesOne namesFamily
+one-family start k a h = h
+one-family offer k a h = serial-block k h
+one-family commit k a h = and-join (not (isKind xor a)) _ (and-left _ (isKind serial k) h) (serial-block k (and-right (not (isKind xor a)) _ h))
+one-family abort k a h = contingency-block k h
+one-family answered-yes k a h = h
+one-family answered-no k a h = h
+one-family pick k a h = h
+one-family down k a h = refl
+
 -- the guard by the kinds and the family
 guard-family : (p : List ℕ) (code : Code) (v : ℕ) → guardBy p code v ≡ guardByKinds code (kind p v) (above p v) (parent p v) v (family p (familyParent p code v) (leftOut code v))
 unfolding guardBy guardByKinds finishing aborting inXor familyParent leftOut
@@ -199,7 +266,69 @@ pub shape-is : (p : List ℕ) (code v : ℕ) {k a u w b : ℕ} {s : Shape} → k
 unfolding guardShape kind
 shape-is p code v {k} {a} {u} {w} ek ea eu ew is h = h ∙ rw (ew, ek, ea, eu, ← above-byte p v) (shape-same code (kindOf (kindByte p v)) (above p v) (parent p v) v is)
 
+-- by its line of the table the shape of any other guard is the same whatever stands for the neighbour
+turnless : (a : Kind) (u b : ℕ) → inTurn a ≡ false → laterShape a u b ≡ firstShape a u
+unfolding inTurn laterShape firstShape
+turnless task u b h = refl
+turnless serial u b h = absurd (false≢true (sym h))
+turnless and u b h = refl
+turnless or u b h = refl
+turnless xor u b h = refl
+turnless contingency u b h = absurd (false≢true (sym h))
+turnless conditional u b h = absurd (false≢true (sym h))
+turnless waiting u b h = refl
+
+finish-alone : (k : Kind) (v b d : ℕ) → isKind serial k ≡ false → finishShape k v b ≡ finishShape k v d
+unfolding finishShape isKind kindNumber
+finish-alone task v b d h = refl
+finish-alone serial v b d h = absurd (false≢true (sym h))
+finish-alone and v b d h = refl
+finish-alone or v b d h = refl
+finish-alone xor v b d h = refl
+finish-alone contingency v b d h = refl
+finish-alone conditional v b d h = refl
+finish-alone waiting v b d h = refl
+
+abort-alone : (k : Kind) (v b d : ℕ) → isKind contingency k ≡ false → abortShape k v b ≡ abortShape k v d
+unfolding abortShape isKind kindNumber
+abort-alone task v b d h = refl
+abort-alone serial v b d h = refl
+abort-alone and v b d h = refl
+abort-alone or v b d h = refl
+abort-alone xor v b d h = refl
+abort-alone contingency v b d h = absurd (false≢true (sym h))
+abort-alone conditional v b d h = refl
+abort-alone waiting v b d h = refl
+
+start-turnless : (a : Kind) (u b : ℕ) → inTurn a ≡ false → (t : Bool) → cond t (firstShape a u) (laterShape a u b) ≡ firstShape a u
+start-turnless a u b h true = refl
+start-turnless a u b h false = turnless a u b h
+
+shape-alone : (c : Code) (k a : Kind) (u v b d : ℕ) → namesOne c k a ≡ false → shapeOf c k a u v b ≡ shapeOf c k a u v d
+unfolding namesOne shapeOf
+shape-alone start k a u v b d h = start-turnless a u b h (eqb b v) ∙ sym (start-turnless a u d h (eqb d v))
+shape-alone offer k a u v b d h = finish-alone k v b d h
+shape-alone commit k a u v b d h = cases (decided (isKind xor a)) (λ x. rw x) (λ x. rw x (finish-alone k v b d (rw x at h)))
+shape-alone abort k a u v b d h = abort-alone k v b d h
+shape-alone answered-yes k a u v b d h = refl
+shape-alone answered-no k a u v b d h = refl
+shape-alone pick k a u v b d h = refl
+shape-alone down k a u v b d h = refl
+
+-- so the neighbour counts only for those that go by it
+pub shape-by-one : (p : List ℕ) (code v : ℕ) {k a u w b : ℕ} {s : Shape} → k ≡ kindByte p v → a ≡ aboveByte p v → u ≡ parent p v → w ≡ v
+    → (namesOne (codeOf code) (kind p v) (above p v) ≡ true → b ≡ neighbour (codeOf code) v (namedNodes p (codeOf code) v))
+    → s ≡ shapeOf (codeOf code) (kindOf k) (kindOf a) u w b → s ≡ guardShape p (codeOf code) v
+unfolding guardShape kind
+shape-by-one p code v {k} {a} {u} {w} {b} ek ea eu ew is h = h ∙ rw (ew, ek, ea, eu, ← above-byte p v) (cases (decided (namesOne (codeOf code) (kindOf (kindByte p v)) (above p v)))
+    (λ o. ap (shapeOf (codeOf code) (kindOf (kindByte p v)) (above p v) (parent p v) v) (is o))
+    (λ o. shape-alone (codeOf code) (kindOf (kindByte p v)) (above p v) (parent p v) v b _ o))
+
 -- by the bytes of the kinds
+pub one-bytes : (p : List ℕ) (code : Code) (v : ℕ) {k a : ℕ} {b : Bool} → k ≡ kindByte p v → a ≡ aboveByte p v → namesOne code (kindOf k) (kindOf a) ≡ b → namesOne code (kind p v) (above p v) ≡ b
+unfolding kind
+one-bytes p code v ek ea h = rw (above-byte p v, ← ek, ← ea) h
+
 pub names-bytes : (p : List ℕ) (code : Code) (v : ℕ) {k a : ℕ} {b : Bool} → k ≡ kindByte p v → a ≡ aboveByte p v → namesFamily code (kindOf k) (kindOf a) ≡ b → namesFamily code (kind p v) (above p v) ≡ b
 unfolding kind
 names-bytes p code v ek ea h = rw (above-byte p v, ← ek, ← ea) h

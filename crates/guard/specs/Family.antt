@@ -74,3 +74,14 @@ neighbour answered-yes v cs = beforeIn v cs v
 neighbour answered-no v cs = beforeIn v cs v
 neighbour pick v cs = beforeIn v cs v
 neighbour down v cs = beforeIn v cs v
+
+-- C2 to C4: by the kinds of v and of its parent, whether the guard goes by that one. A conditional's children go by which of them is the first
+unfoldable pub namesOne : Code → Kind → Kind → Bool
+namesOne start k above = inTurn above
+namesOne offer k above = isKind serial k
+namesOne commit k above = not (isKind xor above) && isKind serial k
+namesOne abort k above = isKind contingency k
+namesOne answered-yes k above = false
+namesOne answered-no k above = false
+namesOne pick k above = false
+namesOne down k above = false

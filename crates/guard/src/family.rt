@@ -3,7 +3,7 @@ ghost use mathlib.Core.Path.{_≡_};
 ghost use mathlib.Core.Bool.{not};
 ghost use Rattle.plan.specs.Plan.{task, isKind, kindOf};
 ghost use Rattle.event.specs.Event.{codeOf};
-ghost use Rattle.guard.specs.Family.{inTurn, namesFamily, familyParent, leftOut};
+ghost use Rattle.guard.specs.Family.{inTurn, namesFamily, namesOne, familyParent, leftOut};
 
 fn is_block(k: u8) -> bool
     ensures { λ r. ⌜ r ≡ not (isKind task (kindOf k)) ⌝ }
@@ -29,6 +29,19 @@ pub fn names_family(code: u8, k: u8, above: u8) -> bool
         5..=6 => false,
         7 => false,
         _ => true,
+    }
+}
+
+// By the same: the guard goes by one of them, the one before a node or its last child.
+pub fn names_one(code: u8, k: u8, above: u8) -> bool
+    ensures { λ r. ⌜ r ≡ namesOne (codeOf code) (kindOf k) (kindOf above) ⌝ }
+{
+    match code {
+        1 => in_turn(above),
+        2 => k == 2,
+        3 => (above != 5) & (k == 2),
+        4 => k == 6,
+        _ => false,
     }
 }
 

@@ -15,15 +15,15 @@ use Rattle.event.specs.Valid.{invalid}
 use Rattle.central.specs.Central.{update}
 use Rattle.row.specs.Row.{hear}
 use Rattle.site.specs.Verdict.{reportOf, verdictNumber}
-use Rattle.site.specs.Step.{stepInvalid, stepOf}
-use Rattle.site.proofs.StepLaws.{step-tested, step-passes, step-leaves}
+use Rattle.site.specs.Step.{stepInvalid, siteAt}
+use Rattle.site.proofs.StepLaws.{step-tested, step-passes, step-leaves, number-any-site}
 use Rattle.runs.specs.Agree.{Bytes}
 use Rattle.runs.proofs.Net.{passedIn}
 use Rattle.runs.proofs.Safe.{InStep, steps-on, own-row}
 use Rattle.runs.proofs.Full.{site-in}
-use Rattle.job.specs.Simulation.{rowOf, withRow, Step, stateFits, eventBy, happen, tell, simulate, stepNumber, replayFrom, passedOf, passedFrom}
+use Rattle.job.specs.Simulation.{rowOf, withRow, Step, stateFits, happen, tell, simulate, stepNumber, replayFrom, passedOf, passedFrom}
 use Rattle.job.proofs.View.{view}
-use Rattle.job.proofs.StepLaws.{number-at-site, happen-leaves, tell-leaves, valid-is}
+use Rattle.job.proofs.StepLaws.{happen-leaves, tell-leaves, valid-is}
 use Rattle.job.proofs.Bridge.{decodeAll, did-all}
 use Rattle.hosts.specs.Hosts.{Rows, Action, try, send, tryNumber, sendNumber, actionNumber, acted, stepFor, isEvent, keeps}
 use Rattle.hosts.proofs.RowLaws.{row-heard, step-refused, hear-number, hear-leaves}
@@ -99,10 +99,10 @@ module _ (p : List ℕ) (ok : Accepted p) (lay : Layout) (housed : Housed p lay)
       placed e = site-in p ok lay housed (eventOf code node) (and-right (isCode code) _ e)
 
       try-number : tryNumber p code node (rows q) ≡ verdictNumber (happen p lay st code node .verdict)
-      unfolding tryNumber happen eventBy reportOf
+      unfolding tryNumber happen reportOf
       try-number = cases (decided (eqb (invalid p true true code node) 0))
           (λ z. let e = sym (event-valid code node) ∙ z in
-          rw (fitting, z, number-at-site site (stepOf p code node (rowOf p st site) .verdict), own-site e, alike .same site (placed e)))
+          rw (fitting, z, own-site e, alike .same site (placed e)) (number-any-site p (siteAt p code node) site code node (rowOf p st site)))
           (λ z. let v = row-valid code node (rows q) (alike .long q) in
           step-refused p code node (rows q) (rw v z) ∙ v ∙ sym (rw (fitting, z)))
 
@@ -110,7 +110,7 @@ module _ (p : List ℕ) (ok : Accepted p) (lay : Layout) (housed : Housed p lay)
       passing : eqb (tryNumber p code node (rows q)) 0 ≡ true → isEvent p code node ≡ true
       unfolding tryNumber
       passing z = sym (event-valid code node) ∙ rw (row-valid code node (rows q) (alike .long q)) at
-          (and-left (eqb (stepInvalid p code node (rows q)) 0) _ (sym (step-passes p code node (rows q)) ∙ z))
+          (and-left (eqb (stepInvalid p code node (rows q)) 0) _ (sym (step-passes p (siteAt p code node) code node (rows q)) ∙ z))
 
       try-state : happen p lay st code node .state ≡ new-state code node q (eqb (tryNumber p code node (rows q)) 0)
       try-state =
@@ -175,6 +175,6 @@ module _ (p : List ℕ) (ok : Accepted p) (lay : Layout) (housed : Housed p lay)
     pub did : (x : Action) → keeps p lay es x ≡ true → Did x
     unfolding actionNumber tryNumber acted stepFor simulate
     did (try code node q) kept = did-by (try code node q) code node q (try-number code node q kept)
-        (ap (update rows q) (step-leaves p code node (rows q))) (try-state code node q kept) (try-inside code node q kept)
+        (ap (update rows q) (step-leaves p (siteAt p code node) code node (rows q))) (try-state code node q kept) (try-inside code node q kept)
     did (send code node q) kept = did-by (send code node q) code node q (send-number code node q kept)
         (ap (update rows q) (hear-leaves p code node (rows q))) (send-state code node q kept) (send-inside code node q kept)

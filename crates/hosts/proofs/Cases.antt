@@ -11,13 +11,13 @@ use Rattle.plan.specs.Check.{lengthOk, kindOk, parentOk, underBlock, fits, coun
 use Rattle.event.specs.Event.{codeNumber, codeOf, isCode, sameCode, same, among, appliesBy, applies, known}
 use Rattle.event.specs.Site.{hostBy, hostOf, own, siteOf}
 use Rattle.event.specs.Bit.{weight, hasBit, withBit}
-use Rattle.event.specs.Valid.{invalid}
+use Rattle.event.specs.Valid.{eventFault, invalid}
 use Rattle.guard.specs.Guard.{beforeIn, isFirst, startBy, finishBy, abortBy, finishing, aborting, guardBy, guard, holds, barsBy, bars, barred}
 use Rattle.central.specs.Mark.{markNumber, isMark}
 use Rattle.central.specs.Central.{fresh, markAfter, answerAfter, pickedAfter, after, reachedBy, mayStart, finishesBy, failsBy, allowedBy, allowed, runFrom, isRun}
 use Rattle.row.specs.Row.{heardIn, heard, hear}
 use Rattle.site.specs.Verdict.{reportOf}
-use Rattle.site.specs.Step.{stepInvalid, decide, stepOf, hearOf}
+use Rattle.site.specs.Step.{stepInvalid, decide, stepAt, hearOf}
 use Rattle.job.specs.Simulation.{passedOf, markBy}
 use Rattle.hosts.specs.Hosts.{freshRows, Action, try, send, tryNumber, sendNumber, actionNumber, acted, stepFor, rowsFrom, actionNumbersFrom, happenedFrom, rowsAfter, actionNumbers, happened, isEvent, keeps, keepsFrom, keepsRules, hostMark, hostMarks}
 
@@ -68,5 +68,5 @@ cases =
     ∷ []
 
 pub all-right : map (λ k. resultOf (k .plan) (k .actions)) cases ≡ map (λ k. k .result) cases
-unfolding cases case resultOf actionNumbers actionNumbersFrom actionNumber tryNumber sendNumber acted stepFor rowsAfter rowsFrom freshRows happened happenedFrom keepsRules keepsFrom keeps isEvent hostMarks hostMark markBy passedOf own siteOf hostOf hostBy stepOf hearOf stepInvalid decide reportOf heard heardIn hear hasBit withBit weight invalid known applies appliesBy isCode codeOf codeNumber sameCode same among markNumber isMark isRun runFrom allowed allowedBy mayStart reachedBy finishesBy failsBy fresh after markAfter answerAfter pickedAfter fitNumber checkNumber lengthOk kindOk parentOk underBlock fits countOk depthOk atAll size kindByte kind kindOf kindNumber isKind parent aboveByte childrenBelow children childCount others depth depthWithin above inXor guard guardBy startBy finishBy abortBy finishing aborting isFirst headOr beforeIn holds barred bars barsBy all any keep upFrom allBelow table lastOr earlier
+unfolding cases case resultOf actionNumbers actionNumbersFrom actionNumber tryNumber sendNumber acted stepFor rowsAfter rowsFrom freshRows happened happenedFrom keepsRules keepsFrom keeps isEvent hostMarks hostMark markBy passedOf own siteOf hostOf hostBy stepAt hearOf stepInvalid decide reportOf heard heardIn hear hasBit withBit weight eventFault invalid known applies appliesBy isCode codeOf codeNumber sameCode same among markNumber isMark isRun runFrom allowed allowedBy mayStart reachedBy finishesBy failsBy fresh after markAfter answerAfter pickedAfter fitNumber checkNumber lengthOk kindOk parentOk underBlock fits countOk depthOk atAll size kindByte kind kindOf kindNumber isKind parent aboveByte childrenBelow children childCount others depth depthWithin above inXor guard guardBy startBy finishBy abortBy finishing aborting isFirst headOr beforeIn holds barred bars barsBy all any keep upFrom allBelow table lastOr earlier
 all-right = refl

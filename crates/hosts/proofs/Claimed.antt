@@ -18,8 +18,8 @@ use Rattle.central.specs.Mark.{markNumber}
 use Rattle.central.specs.Central.{fresh, allowed, isRun, reaches}
 use Rattle.pass.specs.Pass.{pass}
 use Rattle.row.specs.Row.{heard}
-use Rattle.site.specs.Step.{stepInvalid}
-use Rattle.site.proofs.StepLaws.{step-tested, step-passes}
+use Rattle.site.specs.Step.{stepInvalid, siteAt}
+use Rattle.site.proofs.StepLaws.{step-tested, step-passes, number-any-site}
 use Rattle.runs.specs.Agree.{Bytes, Agrees}
 use Rattle.runs.specs.Claims.{Stuck}
 use Rattle.runs.proofs.Full.{site-in}
@@ -77,6 +77,7 @@ module _ (p : List ℕ) (ok : Accepted p) (lay : Layout) (housed : Housed p lay)
           let a : applies p e ≡ true = search parts in
           let l = site-in p ok lay housed e a in
           over .still e (ap (tryNumber p (codeNumber (e .code)) (e .node)) (row-is (siteOf p lay e) l)
+          ∙ number-any-site p (siteAt p (codeNumber (e .code)) (e .node)) (siteOf p lay e) (codeNumber (e .code)) (e .node) (rowOf p (replay p lay steps) (siteOf p lay e))
           ∙ job .faithful steps e (informed (siteOf p lay e) l) .1 (rw events-are at k)))
 
       pass-is : (a : List ℕ) → Bytes (size p) a → Agrees p (among (happened p xs)) a → pass p a ≡ record { number = 0; marks = hostMarks p lay (rowsAfter p xs) }
@@ -100,7 +101,7 @@ module _ (p : List ℕ) (ok : Accepted p) (lay : Layout) (housed : Housed p lay)
     unfolding tryNumber rowAt
     over-still e z =
         let row : List ℕ = rowsAfter p (w .actions) (siteOf p lay e) in
-        let k = sym (step-passes p (codeNumber (e .code)) (e .node) row) ∙ eq-eqb _ 0 z in
+        let k = sym (step-passes p (siteAt p (codeNumber (e .code)) (e .node)) (codeNumber (e .code)) (e .node) row) ∙ eq-eqb _ 0 z in
         let v = eqb-true (stepInvalid p (codeNumber (e .code)) (e .node) row) 0 (and-left _ _ k) in
         let a : applies p e ≡ true = ap (applies p) (sym (event-back e)) ∙ step-tested p _ (e .node) row v .applied in
         let r = w .rows (siteOf p lay e) (site-in p ok lay housed e a) in

@@ -15,7 +15,7 @@ use Rattle.event.specs.Bit.{withBit}
 use Rattle.central.specs.Central.{update}
 use Rattle.row.specs.Row.{hear}
 use Rattle.site.specs.Verdict.{reportOf, verdictNumber}
-use Rattle.site.specs.Step.{stepInvalid, Stepped, hearOf}
+use Rattle.site.specs.Step.{stepInvalid, Stepped, siteAt, hearOf}
 use Rattle.site.proofs.StepLaws.{hear-valid, hear-invalid, step-invalid}
 use Rattle.job.specs.Simulation.{rowOf, withRow, zeros}
 use Rattle.job.proofs.StateLaws.{row-below, byte-at, row-hear}
@@ -69,7 +69,7 @@ module _ (p st : List ℕ) (q v code : ℕ) (node : v < size p) where
 module _ (p : List ℕ) (code node : ℕ) (row : List ℕ) where
   pub step-refused : (eqb (stepInvalid p code node row) 0 ≡ false) → tryNumber p code node row ≡ stepInvalid p code node row
   unfolding tryNumber reportOf
-  step-refused z = rw (step-invalid p code node row (stepInvalid p code node row) refl (eqb-false _ 0 z))
+  step-refused z = rw (step-invalid p (siteAt p code node) code node row (stepInvalid p code node row) refl (eqb-false _ 0 z))
 
   pub hear-number : sendNumber p code node row ≡ stepInvalid p code node row
   unfolding sendNumber reportOf

@@ -8,7 +8,7 @@ use Rattle.plan.specs.Check.{lengthOk, kindOk, parentOk, underBlock, fits, coun
 use Rattle.event.specs.Event.{codeNumber, codeOf, isCode, appliesBy, applies, known}
 use Rattle.event.specs.Site.{hostBy, hostOf, Layout, own, siteOf}
 use Rattle.event.specs.Bit.{weight, hasBit, withBit}
-use Rattle.event.specs.Valid.{invalid}
+use Rattle.event.specs.Valid.{eventFault, invalid}
 use Rattle.guard.specs.Guard.{beforeIn, isFirst, startBy, finishBy, abortBy, finishing, aborting, guardBy, guard, holds, barsBy, bars, barred}
 use Rattle.guard.specs.Rule.{ruleKind, isPicked, ruleByte}
 use Rattle.central.specs.Mark.{markNumber}
@@ -16,8 +16,8 @@ use Rattle.retention.specs.Record.{commonTable, classOf, aboveWithin, nodesAbov
 use Rattle.row.specs.Row.{heardIn, heard, hear}
 use Rattle.site.specs.declared.Report.{Report}
 use Rattle.site.specs.Verdict.{reportOf}
-use Rattle.site.specs.Step.{stepInvalid, decide, stepOf}
-use Rattle.job.specs.Simulation.{rowOf, withRow, Step, stepFrom, stateFits, verdictAt, eventBy, happen, tell, simulate, replayFrom, numbersFrom, zeros, replay, markBy, markAt, endMarks}
+use Rattle.site.specs.Step.{stepInvalid, decide, stepAt}
+use Rattle.job.specs.Simulation.{rowOf, withRow, Step, stepBy, stepFrom, stateFits, happen, tell, simulate, replayFrom, numbersFrom, zeros, replay, markBy, markAt, endMarks}
 
 abbrev plan : List ℕ
 plan = 2 ∷ 255 ∷ 1 ∷ 0 ∷ []
@@ -73,5 +73,5 @@ cases =
     ∷ []
 
 pub all-right : map (λ k. resultOf (k .rows) (k .steps)) cases ≡ map (λ k. k .result) cases
-unfolding cases case resultOf eachFrom shared own siteOf hostOf hostBy stepFrom simulate happen tell eventBy verdictAt stateFits rowOf withRow replayFrom numbersFrom replay zeros markBy markAt endMarks recordOf class classOf countsAs countsAbove nodesAbove aboveWithin fell commonTable invalid known applies appliesBy isCode codeOf codeNumber stepOf stepInvalid decide reportOf ruleByte isPicked ruleKind heard heardIn hear hasBit withBit weight markNumber fitNumber checkNumber lengthOk kindOk parentOk underBlock fits countOk depthOk atAll size kindByte kind kindOf kindNumber isKind parent aboveByte childrenBelow children childCount depth depthWithin above inXor guard guardBy startBy finishBy abortBy finishing aborting isFirst headOr beforeIn holds barred bars barsBy all any keep upFrom allBelow table lastOr
+unfolding cases case resultOf eachFrom shared own siteOf hostOf hostBy stepBy simulate happen tell stateFits rowOf withRow replayFrom numbersFrom replay zeros markBy markAt endMarks recordOf class classOf countsAs countsAbove nodesAbove aboveWithin fell commonTable eventFault invalid known applies appliesBy isCode codeOf codeNumber stepAt stepInvalid decide reportOf ruleByte isPicked ruleKind heard heardIn hear hasBit withBit weight markNumber fitNumber checkNumber lengthOk kindOk parentOk underBlock fits countOk depthOk atAll size kindByte kind kindOf kindNumber isKind parent aboveByte childrenBelow children childCount depth depthWithin above inXor guard guardBy startBy finishBy abortBy finishing aborting isFirst headOr beforeIn holds barred bars barsBy all any keep upFrom allBelow table lastOr
 all-right = refl

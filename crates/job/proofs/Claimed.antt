@@ -20,7 +20,7 @@ use Rattle.pass.specs.Pass.{pass}
 use Rattle.retention.specs.Record.{recordOf}
 use Rattle.row.specs.Row.{heard}
 use Rattle.site.specs.Verdict.{verdictNumber}
-use Rattle.site.specs.Step.{stepInvalid, stepOf}
+use Rattle.site.specs.Step.{stepInvalid, stepAt}
 use Rattle.runs.specs.Agree.{Bytes, Agrees}
 use Rattle.runs.specs.Claims.{Stuck}
 use Rattle.runs.proofs.Net.{passedIn, movedAll, silence}
@@ -85,24 +85,24 @@ module _ (p : List ℕ) (ok : Accepted p) (lay : Layout) (housed : Housed p lay)
     central e a h = guards-follow-rule p ok (passed p lay ts) (sound .run) (heard (rowOf p (replay p lay ts) (siteOf p lay e))) (row-whole (siteOf p lay e) h) e a
 
     -- an event that does not apply passes nowhere
-    number-off : (e : Event) (row : List ℕ) → applies p e ≡ false → eqb (verdictNumber (stepOf p (codeNumber (e .code)) (e .node) row .verdict)) 0 ≡ false
-    number-off e row n =
-        step-passes p (codeNumber (e .code)) (e .node) row
+    number-off : (e : Event) (q : ℕ) (row : List ℕ) → applies p e ≡ false → eqb (verdictNumber (stepAt p q (codeNumber (e .code)) (e .node) row .verdict)) 0 ≡ false
+    number-off e q row n =
+        step-passes p q (codeNumber (e .code)) (e .node) row
         ∙ rw (no-bool (eqb (stepInvalid p (codeNumber (e .code)) (e .node) row) 0)
         (λ z. clash (applies p e) (ap (applies p) (sym (event-back e)) ∙ step-tested p _ (e .node) row (eqb-true _ 0 z) .applied) n))
 
     number-at : (e : Event) → Informed p lay ts (siteOf p lay e) →
-        eqb (verdictNumber (stepOf p (codeNumber (e .code)) (e .node) (rowAt p lay ts e) .verdict)) 0 ≡ allowed p (centralAfter p lay ts) e
+        eqb (verdictNumber (stepAt p (siteOf p lay e) (codeNumber (e .code)) (e .node) (rowAt p lay ts e) .verdict)) 0 ≡ allowed p (centralAfter p lay ts) e
     unfolding rowAt allowed
     number-at e h = cases (decided (applies p e))
-        (λ a. step-passes p (codeNumber (e .code)) (e .node) (rowOf p (replay p lay ts) (siteOf p lay e))
+        (λ a. step-passes p (siteOf p lay e) (codeNumber (e .code)) (e .node) (rowOf p (replay p lay ts) (siteOf p lay e))
         ∙ rw (
           step-valid p ok lay housed (replay p lay ts) (whole .bytes .long) (codeNumber (e .code)) (e .node) (siteOf p lay e) (site-in p ok lay housed e a),
           code-is (e .code),
           event-back e,
           a,
         ) (central e a h ∙ rw a))
-        (λ n. number-off e (rowOf p (replay p lay ts) (siteOf p lay e)) n ∙ rw n)
+        (λ n. number-off e (siteOf p lay e) (rowOf p (replay p lay ts) (siteOf p lay e)) n ∙ rw n)
 
     mark-is : (v : ℕ) → markAt p lay (replay p lay ts) v ≡ centralAfter p lay ts .mark v
     unfolding markAt centralAfter

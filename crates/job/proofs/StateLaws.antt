@@ -7,8 +7,8 @@ use native.Mathlib.Omega.{arith}
 use lib.ListN.{length, getD, take, drop, set, length-take, length-drop, take-append-drop}
 use lib.Seq.{getD-take, getD-drop, take-set-le, take-set-lt, drop-set-lt, drop-set-add}
 use Rattle.plan.specs.Plan.{size}
-use Rattle.event.specs.Bit.{withBit}
-use Rattle.row.specs.Row.{hear}
+use Rattle.event.specs.Bit.{withBit, withoutBit}
+use Rattle.row.specs.Row.{hear, unhear}
 use Rattle.job.specs.Simulation.{rowOf, withRow}
 
 -- row q of n bytes ends where the next begins
@@ -49,3 +49,7 @@ module _ (p st : List ℕ) (q v : ℕ) (node : v < size p) where
   pub row-hear : (code : ℕ) → withRow p st q (hear (rowOf p st q) code v) ≡ set st (q * size p + v) (withBit (getD st (q * size p + v) 0) code)
   unfolding hear
   row-hear code = rw byte-at (row-set (withBit (getD st (q * size p + v) 0) code))
+
+  pub row-unhear : (code : ℕ) → withRow p st q (unhear (rowOf p st q) code v) ≡ set st (q * size p + v) (withoutBit (getD st (q * size p + v) 0) code)
+  unfolding unhear
+  row-unhear code = rw byte-at (row-set (withoutBit (getD st (q * size p + v) 0) code))

@@ -9,64 +9,48 @@ use lib.ListN.{length}
 use borrow.Author.Tests.{eq-eqb, ne-eqb}
 use Rattle.lists.proofs.Logic.{cases, and-right, parts, decided}
 use Rattle.plan.specs.Plan.{size, kind, inXor}
-use Rattle.plan.specs.Check.{Accepted}
+use Rattle.plan.specs.Check.{fitNumber, Accepted}
 use Rattle.plan.proofs.Main.{fit-exact}
-use Rattle.event.specs.Event.{codeOf, isCode, at, eventOf, appliesBy, applies, known}
+use Rattle.event.specs.Event.{codeOf, isCode, eventOf, appliesBy, applies, known}
 use Rattle.event.specs.Site.{Layout, Housed, siteOf}
-use Rattle.event.specs.Valid.{invalid}
-use Rattle.guard.specs.Guard.{guard}
+use Rattle.event.specs.Valid.{eventFault, invalid}
+use Rattle.event.proofs.ValidLaws.{invalid-fit}
 use Rattle.row.specs.Row.{heard, hear}
-use Rattle.site.specs.declared.Refusal.the-variants.{Invalid, Barred, Unmet, Untrue}
-use Rattle.site.specs.declared.Verdict.{Verdict}
-use Rattle.site.specs.declared.Verdict.the-variants.{Passed, Heard, Refused}
+use Rattle.site.specs.declared.Refusal.the-variants.{Invalid}
+use Rattle.site.specs.declared.Verdict.the-variants.{Refused}
 use Rattle.site.specs.Verdict.{reportOf, verdictNumber}
-use Rattle.site.specs.Step.{stepInvalid, siteAt, stepOf}
+use Rattle.site.specs.Step.{stepInvalid, stepAt}
 use Rattle.row.proofs.RowLaws.{hear-again}
-use Rattle.site.proofs.StepLaws.{step-passes, step-leaves, step-by}
+use Rattle.site.proofs.StepLaws.{step-passes, step-leaves}
 use Rattle.runs.proofs.Net.{passes, relayed}
 use Rattle.runs.proofs.Full.{site-in}
-use Rattle.job.specs.Simulation.{rowOf, withRow, Step, event, message, stateFits, verdictAt, eventBy, happen, tell, simulate, stepNumber}
+use Rattle.job.specs.Simulation.{rowOf, withRow, Step, event, message, simulated, stateFits, happen, tell, simulate, stepNumber}
 use Rattle.job.proofs.StateLaws.{with-same, row-length}
 use Rattle.job.proofs.View.{view}
 
--- a layout's site leaves the number of a verdict
-pub number-at-site : (q : ℕ) (v : Verdict) → verdictNumber (verdictAt q v) ≡ verdictNumber v
-unfolding reportOf verdictAt
-number-at-site q (Passed e) = refl
-number-at-site q Heard = refl
-number-at-site q (Refused (Invalid n)) = refl
-number-at-site q (Refused (Barred r)) = refl
-number-at-site q (Refused (Unmet r)) = refl
-number-at-site q (Refused Untrue) = refl
-
--- where every node has its own site, a step names it already
-pub step-at-site : (p : List ℕ) (code node : ℕ) (row : List ℕ) → verdictAt (siteAt p code node) (stepOf p code node row .verdict) ≡ stepOf p code node row .verdict
-unfolding verdictAt
-step-at-site p code node row = step-by p code node row (λ v b g s. verdictAt (siteAt p code node) (s .verdict) ≡ s .verdict) (λ n h b g. refl) (λ g. refl) refl refl
-
 module _ (p : List ℕ) (lay : Layout) (st : List ℕ) (code node : ℕ) where
+  abbrev site : ℕ
+  site = siteOf p lay (eventOf code node)
+
   abbrev here : List ℕ
-  here = rowOf p st (siteOf p lay (eventOf code node))
+  here = rowOf p st site
 
   -- an event
   happen-passes : eqb (verdictNumber (happen p lay st code node .verdict)) 0
-      ≡ (eqb (invalid p (stateFits p lay st) true code node) 0 && eqb (verdictNumber (stepOf p code node here .verdict)) 0)
-  unfolding happen eventBy reportOf
-  happen-passes = cases (decided (eqb (invalid p (stateFits p lay st) true code node) 0))
-      (λ z. rw (z, number-at-site (siteOf p lay (eventOf code node)) (stepOf p code node here .verdict)))
-      (λ z. rw (z, z))
+      ≡ (eqb (invalid p (stateFits p lay st) true code node) 0 && eqb (verdictNumber (stepAt p site code node here .verdict)) 0)
+  unfolding happen reportOf
+  happen-passes = cases (decided (eqb (invalid p (stateFits p lay st) true code node) 0)) (λ z. rw z) (λ z. rw (z, z))
 
   pub happen-leaves : happen p lay st code node .state
-      ≡ cond (eqb (verdictNumber (happen p lay st code node .verdict)) 0) (withRow p st (siteOf p lay (eventOf code node)) (hear here code node)) st
-  unfolding happen eventBy reportOf
+      ≡ cond (eqb (verdictNumber (happen p lay st code node .verdict)) 0) (withRow p st site (hear here code node)) st
+  unfolding happen reportOf
   happen-leaves = cases (decided (eqb (invalid p (stateFits p lay st) true code node) 0))
-      (λ z. rw (z, number-at-site (siteOf p lay (eventOf code node)) (stepOf p code node here .verdict), step-leaves p code node here) (put-back (eqb (verdictNumber (stepOf p code node here .verdict)) 0)))
+      (λ z. rw (z, step-leaves p site code node here) (put-back (eqb (verdictNumber (stepAt p site code node here .verdict)) 0)))
       (λ z. rw (z, z))
     where
-      put-back : (b : Bool) → withRow p st (siteOf p lay (eventOf code node)) (cond b (hear here code node) here)
-          ≡ cond b (withRow p st (siteOf p lay (eventOf code node)) (hear here code node)) st
+      put-back : (b : Bool) → withRow p st site (cond b (hear here code node) here) ≡ cond b (withRow p st site (hear here code node)) st
       put-back true = refl
-      put-back false = with-same p st (siteOf p lay (eventOf code node))
+      put-back false = with-same p st site
 
   -- a message to site q
   module _ (q : ℕ) where
@@ -82,6 +66,13 @@ module _ (p : List ℕ) (lay : Layout) (st : List ℕ) (code node : ℕ) where
     tell-leaves = cases (decided (eqb (invalid p (stateFits p lay st) (ltb q (lay .rows)) code node) 0))
         (λ z. cases (decided (heard here (eventOf code node))) (λ h. rw (z, h)) (λ h. rw (z, h)))
         (λ z. rw (z, z))
+
+-- 1 to 7 are found before the step is looked at
+pub unfit-refused : (p : List ℕ) (lay : Layout) (st : List ℕ) (t : Step) (n : ℕ) → n ≡ fitNumber p (stateFits p lay st) → (n ≡ 0 → ⊥) →
+    simulate p lay st t ≡ simulated st (Refused (Invalid n))
+unfolding simulate happen tell
+unfit-refused p lay st (event code node) n e h = rw (invalid-fit p (stateFits p lay st) true code node (λ z. h (e ∙ z)), ← e, ne-eqb n 0 h)
+unfit-refused p lay st (message code node q) n e h = rw (invalid-fit p (stateFits p lay st) (ltb q (lay .rows)) code node (λ z. h (e ∙ z)), ← e, ne-eqb n 0 h)
 
 -- a refused step leaves the state
 pub refused-leaves : (p : List ℕ) (lay : Layout) (st : List ℕ) (t : Step) → (stepNumber p lay st t ≡ 0 → ⊥) → simulate p lay st t .state ≡ st
@@ -102,7 +93,7 @@ repeat-leaves p lay st code node q h = tell-leaves p lay st code node q ∙ go (
 -- AN ACCEPTED PLAN
 pub valid-is : (p : List ℕ) → Accepted p → (sited : Bool) (code node : ℕ) →
     eqb (invalid p true sited code node) 0 ≡ ((isCode code && applies p (eventOf code node)) && sited)
-unfolding invalid known applies
+unfolding eventFault invalid known applies
 valid-is p ok sited code node =
     rw (fit-exact p true .none .1 (ok, refl)) (go (isCode code) (ltb node (size p)) (appliesBy (codeOf code) (kind p node) (inXor p node)) sited)
   where
@@ -136,7 +127,7 @@ module _ (p : List ℕ) (ok : Accepted p) (lay : Layout) (housed : Housed p lay)
       ∙ rw (fitting, valid-is p ok true code node, and-true) (cases (decided (isCode code && applies p (eventOf code node)))
       (λ k. let c : isCode code ≡ true = search parts in
       let a : applies p (eventOf code node) ≡ true = and-right (isCode code) _ k in
-      rw (c, a) (step-passes p code node (here p lay st code node)
+      rw (c, a) (step-passes p (site p lay st code node) code node (here p lay st code node)
       ∙ rw (step-valid (siteOf p lay (eventOf code node)) (site-in p ok lay housed (eventOf code node) a), c, a)))
       (λ k. rw k (sym (shut (isCode code) (applies p (eventOf code node)) _ _ k))))
 

@@ -17,7 +17,7 @@ use Rattle.pass.specs.Pass.{pass}
 use Rattle.retention.specs.Record.{recordOf}
 use Rattle.row.specs.Row.{heard}
 use Rattle.site.specs.Verdict.{verdictNumber}
-use Rattle.site.specs.Step.{stepOf}
+use Rattle.site.specs.Step.{stepAt}
 use Rattle.runs.specs.Agree.{Bytes, Agrees}
 use Rattle.job.specs.Simulation.{rowOf, Step, message, simulate, stepNumber, replayFrom, passedFrom, replay, passed, heardAt, markAt, endMarks}
 
@@ -66,7 +66,7 @@ pub record Claim (p : List ℕ) (lay : Layout) : Type 0 where
   pub agreed : (es : List Event) → isRun p es ≡ true → (a : List ℕ) × Bytes (size p) a × Agrees p (among es) a
   -- I11: demand 2, for every event, one that does not apply too
   pub faithful : (ts : List Step) (e : Event) → Informed p lay ts (siteOf p lay e) →
-      (verdictNumber (stepOf p (codeNumber (e .code)) (e .node) (rowAt p lay ts e) .verdict) ≡ 0) ↔ (allowed p (centralAfter p lay ts) e ≡ true)
+      (verdictNumber (stepAt p (siteOf p lay e) (codeNumber (e .code)) (e .node) (rowAt p lay ts e) .verdict) ≡ 0) ↔ (allowed p (centralAfter p lay ts) e ≡ true)
 
 -- THE CLAIM OF DEMAND 3 (I1 to I11): for every accepted plan, with any layout that gives every node a row
 abbrev pub Demand3 : Type 0

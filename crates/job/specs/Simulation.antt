@@ -12,13 +12,11 @@ use Rattle.event.specs.Site.{Layout, siteOf}
 use Rattle.event.specs.Valid.{invalid}
 use Rattle.central.specs.Mark.{Mark, idle, running, offered, committed, failed, turned-down, markNumber}
 use Rattle.row.specs.Row.{heard, hear}
-use Rattle.site.specs.declared.PassedEvent.{PassedEvent}
-use Rattle.site.specs.declared.Refusal.{Refusal}
-use Rattle.site.specs.declared.Refusal.the-variants.{Invalid, Barred, Unmet, Untrue}
+use Rattle.site.specs.declared.Refusal.the-variants.{Invalid, Untrue}
 use Rattle.site.specs.declared.Verdict.{Verdict}
-use Rattle.site.specs.declared.Verdict.the-variants.{Passed, Heard, Refused}
+use Rattle.site.specs.declared.Verdict.the-variants.{Heard, Refused}
 use Rattle.site.specs.Verdict.{verdictNumber}
-use Rattle.site.specs.Step.{Stepped, stepOf}
+use Rattle.site.specs.Step.{Stepped, stepAt}
 
 -- B4: the state is the sites' rows one after another: row q, and the state with another row q
 unfoldable pub rowOf : List ℕ → List ℕ → ℕ → List ℕ
@@ -32,9 +30,13 @@ pub data Step : Type 0 where
   event : ℕ → ℕ → Step
   message : ℕ → ℕ → ℕ → Step
 
--- J1: as three numbers, where site ff makes it an event
-unfoldable pub stepFrom : ℕ → ℕ → ℕ → Step
-stepFrom code node site = cond (eqb site 255) (event code node) (message code node site)
+-- J1: as three numbers, where site ff makes it an event; `row` is the row that the number of another site names
+unfoldable pub stepBy : (ℕ → ℕ) → ℕ → ℕ → ℕ → Step
+stepBy row code node site = cond (eqb site 255) (event code node) (message code node (row site))
+
+-- B4: where every node has its own site, its own number does
+abbrev pub stepFrom : ℕ → ℕ → ℕ → Step
+stepFrom code node site = stepBy (λ q. q) code node site
 
 -- H0, I2: the state that a step leaves, and its verdict
 pub record Simulated : Type 0 where
@@ -48,24 +50,15 @@ simulated st v = record { state = st; verdict = v }
 unfoldable pub stateFits : List ℕ → Layout → List ℕ → Bool
 stateFits p lay st = eqb (length st) (lay .rows * size p)
 
--- B4: a verdict with the layout's site q, where an event's site goes with it
-unfoldable pub verdictAt : ℕ → Verdict → Verdict
-verdictAt q (Passed e) = Passed (record { code = e .code; node = e .node; site = q; rule = e .rule })
-verdictAt q Heard = Heard
-verdictAt q (Refused (Invalid n)) = Refused (Invalid n)
-verdictAt q (Refused (Barred r)) = Refused (Barred q)
-verdictAt q (Refused (Unmet r)) = Refused (Unmet q)
-verdictAt q (Refused Untrue) = Refused Untrue
+-- I2: row q as a site's step left it
+abbrev pub rowStepped : List ℕ → List ℕ → ℕ → Stepped → Simulated
+rowStepped p st q s = simulated (withRow p st q (s .row)) (s .verdict)
 
--- I2: an event happens by the step of its site q on row q
-unfoldable pub eventBy : List ℕ → List ℕ → ℕ → Stepped → Simulated
-eventBy p st q s = simulated (withRow p st q (s .row)) (verdictAt q (s .verdict))
-
--- H1 to H9, I2: refused by the tests, else so
+-- H1 to H9, I2: an event is refused by the tests, or happens by the step of its site on that site's row
 unfoldable pub happen : List ℕ → Layout → List ℕ → ℕ → ℕ → Simulated
 happen p lay st code node =
     cond (not (eqb (invalid p (stateFits p lay st) true code node) 0)) (simulated st (Refused (Invalid (invalid p (stateFits p lay st) true code node))))
-    (eventBy p st (siteOf p lay (eventOf code node)) (stepOf p code node (rowOf p st (siteOf p lay (eventOf code node)))))
+    (rowStepped p st (siteOf p lay (eventOf code node)) (stepAt p (siteOf p lay (eventOf code node)) code node (rowOf p st (siteOf p lay (eventOf code node)))))
 
 -- H12, I2: a message of an event that its own site's row has, to site q
 unfoldable pub tell : List ℕ → Layout → List ℕ → ℕ → ℕ → ℕ → Simulated

@@ -1,5 +1,5 @@
 -- A refused call leaves every lent byte: each call is a choice between what is refused and what is done. Assumes nothing.
-use mathlib.Core.Path.{_≡_, refl, _∙_}
+use mathlib.Core.Path.{_≡_, refl, ap, _∙_}
 use mathlib.Core.Bool.{true, cond, not}
 use mathlib.Core.List.{List, _++_}
 use Prim.Native.Nat.{ℕ, _<_}
@@ -7,6 +7,7 @@ use borrow.Author.Tests.{ne-eqb, lt-ltb}
 use lib.Dec.{eqb, leb, ltb}
 use lib.ListN.{length, drop}
 use Rattle.lists.specs.Seq.{table}
+use Rattle.lists.proofs.Logic.{cases, decided}
 use Rattle.plan.specs.Plan.{size, depth}
 use Rattle.event.specs.Event.{eventOf}
 use Rattle.event.specs.Site.{own}
@@ -21,7 +22,7 @@ use Rattle.writer.specs.declared.Written.the-variants.{Done, Refused}
 use Rattle.site.specs.Verdict.{reportOf, verdictNumber}
 use Rattle.site.specs.declared.Refusal.the-variants.{Invalid}
 use Rattle.site.specs.declared.Verdict.the-variants as verdict
-use Rattle.site.specs.Step.{Stepped, stepped, stepInvalid, stepOf, hearOf}
+use Rattle.site.specs.Step.{Stepped, stepped, stepInvalid, siteAt, stepOf, hearOf}
 use Rattle.site.proofs.StepLaws.{step-leaves}
 use Rattle.row.specs.Row.{hear}
 use Rattle.central.specs.Central.{allowed}
@@ -33,8 +34,13 @@ use Rattle.pass_record.specs.PassRecord.{passRecordNumber, passRecordInto}
 use Rattle.job.specs.Simulation.{stepFrom, replayFrom, numbersFrom, endMarks}
 use Rattle.job.proofs.StepLaws.{refused-leaves}
 use Rattle.simulation.specs.Run.{simulateOf, recordByNumber, recordByInto, stepsOf, Ran, ran, runNumber, runOf}
+use Rattle.journal.specs.declared.Entry.{Entry}
+use Rattle.journal.specs.Journal.{undoNumber, undoOf}
+use Rattle.journal.specs.Session.{Lent}
+use Rattle.journal.proofs.UndoLaws.{keep-refused}
+use Rattle.keeping.specs.Keeping.{keepOwn, undoOwn}
 use Rattle.script.specs.Script.{rehearseInto, textNumber, textLines, TextRun, textRun, refused, textDone, linesInto, runTextInto}
-use Rattle.refusals.specs.Claim.{RefusalsLeave, guardNumber, eventNumber, messageNumber, simulateNumber, ruleNumber}
+use Rattle.refusals.specs.Claim.{RefusalsLeave, guardNumber, eventNumber, messageNumber, simulateNumber, keepNumber, ruleNumber}
 use Rattle.refusals.proofs.ChoiceLaws.{choice, refusal, tested}
 
 rewrite-leaves : (p b : List ℕ) → (rewriteOf p b .number ≡ 0 → ⊥) → rewriteOf p b .out ≡ b
@@ -70,7 +76,7 @@ module _ (b : List ℕ) where
 
 -- a step, a message and a step of a simulation
 step-left : (p : List ℕ) (code node : ℕ) (row : List ℕ) → (eventNumber p code node row ≡ 0 → ⊥) → stepOf p code node row .row ≡ row
-step-left p code node row h = step-leaves p code node row ∙ rw (ne-eqb (eventNumber p code node row) 0 h)
+step-left p code node row h = step-leaves p (siteAt p code node) code node row ∙ rw (ne-eqb (eventNumber p code node row) 0 h)
 
 hear-leaves : (p : List ℕ) (code node : ℕ) (row : List ℕ) → (messageNumber p code node row ≡ 0 → ⊥) → hearOf p code node row .row ≡ row
 unfolding hearOf reportOf
@@ -150,6 +156,17 @@ printing-leaves : (t b : List ℕ) → length b < 16384 → (rehearseInto t b .p
 unfolding rehearseInto
 printing-leaves t b l = rw (lt-ltb (length b) 16384 l) (refl, refl)
 
+-- a kept step and a take-back
+keep-left : (p st : List ℕ) (es : List Entry) (k code node q : ℕ) → (keepNumber p st es k code node q ≡ 0 → ⊥) →
+    (keepOwn p st es k code node q .step .state ≡ st) × (keepOwn p st es k code node q .entries ≡ es) × (keepOwn p st es k code node q .count ≡ k)
+keep-left p st es k code node q h =
+    let e = keep-refused p (own p) (λ r. r) st es k code node q h in
+    (ap (λ (l : Lent). l .state) e, ap (λ (l : Lent). l .entries) e, ap (λ (l : Lent). l .count) e)
+
+undo-left : (p st : List ℕ) (es : List Entry) (k : ℕ) → (undoOwn p st es k .number ≡ 0 → ⊥) → (undoOwn p st es k .state ≡ st) × (undoOwn p st es k .count ≡ k)
+unfolding undoOf
+undo-left p st es k h = cases (decided (eqb (undoNumber p (own p) (λ q. q) st es k) 0)) (λ z. absurd (h (rw z))) (λ z. rw z (refl, refl))
+
 pub refusals-leave : RefusalsLeave
 refusals-leave = record {
   rewrite = rewrite-leaves;
@@ -158,6 +175,8 @@ refusals-leave = record {
   step = step-left;
   hear = hear-leaves;
   simulate = simulate-leaves;
+  keep = keep-left;
+  undo = undo-left;
   central = λ p code node m k. central-leaves m k p code node;
   pass = pass-leaves;
   pass-record = λ p tab a m c. pass-record-leaves m c p tab a;

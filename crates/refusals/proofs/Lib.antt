@@ -4,4 +4,5 @@ pub mod Leaves
 pub mod PassNumbers
 pub mod Passes
 pub mod Simulated
+pub mod Journal
 pub mod Main

@@ -7,6 +7,7 @@ use Rattle.refusals.specs.Claim.{AcceptedPass, Demand1}
 use Rattle.refusals.proofs.Leaves.{refusals-leave}
 use Rattle.refusals.proofs.Passes.{rewrite-passes, depths-pass, guard-passes, step-later, hear-later, central-later, pass-passes, pass-record-passes, record-passes, record-by-passes, run-passes}
 use Rattle.refusals.proofs.Simulated.{simulate-later}
+use Rattle.refusals.proofs.Journal.{keep-later, undo-later}
 
 accepted-pass : (p : List ℕ) → Accepted p → AcceptedPass p
 accepted-pass p ok = record {
@@ -16,6 +17,8 @@ accepted-pass p ok = record {
   step = step-later p ok;
   hear = hear-later p ok;
   simulate = λ code node q st long. simulate-later p ok st long code node q;
+  keep = λ st es k code node q long room. keep-later p ok st long es k code node q room;
+  undo = λ st es k long within. undo-later p ok st long es k within;
   central = central-later p ok;
   pass = pass-passes p ok;
   pass-record = pass-record-passes p ok;

@@ -14,7 +14,7 @@ use Rattle.plan.specs.Check.{Accepted, fitNumber}
 use Rattle.plan.proofs.Main.{fit-exact}
 use Rattle.event.specs.Event.{eventOf, known, applies}
 use Rattle.event.specs.Site.{own}
-use Rattle.event.specs.Valid.{invalid}
+use Rattle.event.specs.Valid.{eventFault, invalid}
 use Rattle.checker.specs.Depths.{depthsNumber, depthsOf}
 use Rattle.rewrite.specs.Rewrite.{rewriteNumber, rewriteOf}
 use Rattle.guard.specs.Guard.{guard, holds, barred}
@@ -23,7 +23,7 @@ use Rattle.guard.specs.Bytes.{encode}
 use Rattle.writer.specs.Written.{Filled, filled, writtenNumber, fitted, writeOf}
 use Rattle.writer.specs.declared.Written.the-variants.{Refused}
 use Rattle.site.specs.Verdict.{reportOf, verdictNumber}
-use Rattle.site.specs.Step.{Stepped, stepped, stepInvalid, decide, stepOf, hearOf}
+use Rattle.site.specs.Step.{Stepped, stepped, stepInvalid, siteAt, decide, stepAt, hearOf}
 use Rattle.site.specs.declared.Refusal.the-variants.{Invalid}
 use Rattle.site.specs.declared.Verdict.the-variants as verdict
 use Rattle.site.proofs.StepLaws.{decision-10, decision-11, decision-0}
@@ -48,6 +48,12 @@ common-right : tableNumber commonTable ≡ 0
 unfolding tableNumber tableOk frameOk commonTable allBelow
 common-right = refl
 
+pub fault-later : (p : List ℕ) (sited : Bool) (code node : ℕ) → Later (eventFault p sited code node)
+unfolding eventFault
+fault-later p sited code node =
+    choice Later (not (known p code node && sited)) 8 (cond (not (applies p (eventOf code node))) 9 0) (λ e l. omega arith)
+    (λ e. choice Later (not (applies p (eventOf code node))) 9 0 (λ e l. omega arith) (λ e. none-later))
+
 module _ (p : List ℕ) (ok : Accepted p) where
   fit : (right : Bool) → right ≡ true → fitNumber p right ≡ 0
   fit right e = fit-exact p right .none .1 (ok, e)
@@ -66,10 +72,7 @@ module _ (p : List ℕ) (ok : Accepted p) where
   -- with right lengths, 8 and 9 are left
   pub invalid-later : (fits sited : Bool) (code node : ℕ) → fits ≡ true → Later (invalid p fits sited code node)
   unfolding invalid
-  invalid-later fits sited code node e =
-      rw (fit fits e)
-      (choice Later (not (known p code node && sited)) 8 (cond (not (applies p (eventOf code node))) 9 0) (λ e l. omega arith)
-      (λ e. choice Later (not (applies p (eventOf code node))) 9 0 (λ e l. omega arith) (λ e. none-later)))
+  invalid-later fits sited code node e = rw (fit fits e) (fault-later p sited code node)
 
   pub guard-passes : (code node : ℕ) (b : List ℕ) → length (encode (guard p (eventOf code node))) ≤ length b → Later (guardNumber p code node b)
   unfolding writeOf fitted writtenNumber
@@ -85,14 +88,14 @@ module _ (p : List ℕ) (ok : Accepted p) where
     test-later = invalid-later (eqb (length row) (size p)) true code node (one row long)
 
     pub step-later : Later (eventNumber p code node row)
-    unfolding stepOf decide reportOf
+    unfolding stepAt decide reportOf
     step-later =
         let n = stepInvalid p code node row in
         let P : Stepped → Type 0 = λ s. Later (verdictNumber (s .verdict)) in
-        choice P (not (eqb n 0)) (stepped row (verdict.Refused (Invalid n))) (decide p code node row) (λ e. test-later)
-        (λ e. choice P (barred p (heard row) (eventOf code node)) (decision-10 p code node row)
-        (cond (not (holds (heard row) (guard p (eventOf code node)))) (decision-11 p code node row) (decision-0 p code node row)) (λ e l. omega arith)
-        (λ e. choice P (not (holds (heard row) (guard p (eventOf code node)))) (decision-11 p code node row) (decision-0 p code node row) (λ e l. omega arith) (λ e. none-later)))
+        choice P (not (eqb n 0)) (stepped row (verdict.Refused (Invalid n))) (decide p (siteAt p code node) code node row) (λ e. test-later)
+        (λ e. choice P (barred p (heard row) (eventOf code node)) (decision-10 p (siteAt p code node) code node row)
+        (cond (not (holds (heard row) (guard p (eventOf code node)))) (decision-11 p (siteAt p code node) code node row) (decision-0 p (siteAt p code node) code node row)) (λ e l. omega arith)
+        (λ e. choice P (not (holds (heard row) (guard p (eventOf code node)))) (decision-11 p (siteAt p code node) code node row) (decision-0 p (siteAt p code node) code node row) (λ e l. omega arith) (λ e. none-later)))
 
     pub hear-later : Later (messageNumber p code node row)
     unfolding hearOf reportOf

@@ -19,10 +19,8 @@ use Rattle.row.specs.Row.{heard, hear}
 use Rattle.site.specs.Verdict.{reportOf, verdictNumber}
 use Rattle.site.specs.declared.Refusal.the-variants.{Invalid, Untrue}
 use Rattle.site.specs.declared.Verdict.the-variants.{Heard, Refused}
-use Rattle.job.specs.Simulation.{rowOf, withRow, Step, event, message, stepFrom, Simulated, simulated, verdictAt, stateFits, eventBy, happen, tell, simulate}
+use Rattle.job.specs.Simulation.{rowOf, withRow, Step, event, message, stepFrom, Simulated, simulated, stateFits, happen, tell, simulate}
 use Rattle.job.proofs.StateLaws.{row-length}
-use Rattle.job.proofs.StepLaws.{number-at-site}
-use Rattle.site.specs.Step.{stepOf}
 use Rattle.simulation.specs.Run.{simulateOf}
 use Rattle.refusals.specs.Claim.{Later, simulateNumber}
 use Rattle.refusals.proofs.ChoiceLaws.{choice}
@@ -43,12 +41,12 @@ module _ (p : List ℕ) (ok : Accepted p) (st : List ℕ) (long : length st ≡ 
   site-in code node z = host-in p ok (eventOf code node) (valid p (stateFits p (own p) st) true code node z .applied)
 
   happen-later : (code node : ℕ) → Fine (happen p (own p) st code node)
-  unfolding happen eventBy reportOf
+  unfolding happen reportOf
   happen-later code node =
       let n = invalid p (stateFits p (own p) st) true code node in
       let q = siteOf p (own p) (eventOf code node) in
       cases (decided (eqb n 0))
-      (λ z. rw (z, number-at-site q (stepOf p code node (rowOf p st q) .verdict)) (step-later p ok code node (rowOf p st q) (row-length p st (size p) q long (site-in code node (eqb-true n 0 z)))))
+      (λ z. rw z (step-later p ok code node (rowOf p st q) (row-length p st (size p) q long (site-in code node (eqb-true n 0 z)))))
       (λ z. rw z (invalid-later p ok (stateFits p (own p) st) true code node fits))
 
   tell-later : (code node q : ℕ) → Fine (tell p (own p) st code node q)

@@ -18,6 +18,8 @@ use Rattle.central.specs.Rule.{rulingNumber, ruleOf}
 use Rattle.pass.specs.Pass.{passInto}
 use Rattle.pass_record.specs.PassRecord.{passRecordInto}
 use Rattle.simulation.specs.Run.{simulateOf, recordInto, recordByInto, runOf}
+use Rattle.journal.specs.declared.Entry.{Entry}
+use Rattle.keeping.specs.Keeping.{keepOwn, undoOwn}
 use Rattle.script.specs.Script.{rehearseInto, runTextInto}
 
 -- H16, H17: the number of the answer to an event at a site, to a message, and to either in a simulation
@@ -29,6 +31,10 @@ messageNumber p code node row = verdictNumber (hearOf p code node row .verdict)
 
 abbrev pub simulateNumber : List ℕ → ℕ → ℕ → ℕ → List ℕ → ℕ
 simulateNumber p code node q st = verdictNumber (simulateOf p code node q st .verdict)
+
+-- L2: and to a kept step
+abbrev pub keepNumber : List ℕ → List ℕ → List Entry → ℕ → ℕ → ℕ → ℕ → ℕ
+keepNumber p st es k code node q = verdictNumber (keepOwn p st es k code node q .step .verdict)
 
 -- E10, H18: and of the guard writer and the central rule
 abbrev pub guardNumber : List ℕ → ℕ → ℕ → List ℕ → ℕ
@@ -51,6 +57,11 @@ pub record RefusalsLeave : Type 0 where
   pub hear : (p : List ℕ) (code node : ℕ) (row : List ℕ) → (messageNumber p code node row ≡ 0 → ⊥) → hearOf p code node row .row ≡ row
   -- vulcedar_simulate
   pub simulate : (p : List ℕ) (code node q : ℕ) (st : List ℕ) → (simulateNumber p code node q st ≡ 0 → ⊥) → simulateOf p code node q st .state ≡ st
+  -- vulcedar_keep
+  pub keep : (p st : List ℕ) (es : List Entry) (k code node q : ℕ) → (keepNumber p st es k code node q ≡ 0 → ⊥) →
+      (keepOwn p st es k code node q .step .state ≡ st) × (keepOwn p st es k code node q .entries ≡ es) × (keepOwn p st es k code node q .count ≡ k)
+  -- vulcedar_undo, which never writes the entries
+  pub undo : (p st : List ℕ) (es : List Entry) (k : ℕ) → (undoOwn p st es k .number ≡ 0 → ⊥) → (undoOwn p st es k .state ≡ st) × (undoOwn p st es k .count ≡ k)
   -- vulcedar_central
   pub central : (p : List ℕ) (code node : ℕ) (m k : List ℕ) → (ruleNumber p code node m k ≡ 0 → ⊥) →
       (ruleOf p code node m k .marks ≡ m) × (ruleOf p code node m k .notes ≡ k)
@@ -89,6 +100,10 @@ pub record AcceptedPass (p : List ℕ) : Type 0 where
   pub hear : (code node : ℕ) (row : List ℕ) → length row ≡ size p → Later (messageNumber p code node row)
   -- vulcedar_simulate
   pub simulate : (code node q : ℕ) (st : List ℕ) → length st ≡ size p * size p → Later (simulateNumber p code node q st)
+  -- vulcedar_keep
+  pub keep : (st : List ℕ) (es : List Entry) (k code node q : ℕ) → length st ≡ size p * size p → k < length es → Later (keepNumber p st es k code node q)
+  -- vulcedar_undo
+  pub undo : (st : List ℕ) (es : List Entry) (k : ℕ) → length st ≡ size p * size p → k ≤ length es → Later (undoOwn p st es k .number)
   -- vulcedar_central
   pub central : (code node : ℕ) (m k : List ℕ) → length m ≡ size p → length k ≡ size p → Later (ruleNumber p code node m k)
   -- vulcedar_pass

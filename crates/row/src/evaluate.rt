@@ -6,17 +6,17 @@ ghost use Prim.Native.Nat.{_≤_};
 ghost use Rattle.plan.specs.Plan.{kind, children, above};
 ghost use Rattle.event.specs.Event.{codeOf};
 ghost use Rattle.guard.specs.Guard.{beforeIn};
-ghost use Rattle.guard.specs.Family.{family, familyParent, leftOut, namesFamily, neighbour};
+ghost use Rattle.guard.specs.Family.{family, familyParent, leftOut, namesOne, neighbour};
 ghost use Rattle.guard.specs.Shape.{guardShape};
 ghost use Rattle.lists.specs.Seq.{all, any};
 ghost use Rattle.row.specs.Row.{heardIn};
 ghost use Rattle.row.specs.Evaluate.{oneHolds, clauseHolds, eachHolds, familyHolds};
 
-// The guard names any children or siblings.
-fn names_family(plan: &[u8], code: u8, v: u8) -> bool
-    ensures { λ r. ⌜ r ≡ namesFamily (codeOf code) (kind (now (plan .entry)) v) (above (now (plan .entry)) v) ⌝ }
+// The guard goes by one child or sibling.
+fn names_one(plan: &[u8], code: u8, v: u8) -> bool
+    ensures { λ r. ⌜ r ≡ namesOne (codeOf code) (kind (now (plan .entry)) v) (above (now (plan .entry)) v) ⌝ }
 {
-    family::names_family(code, plan::kind(plan, v), plan::above(plan, v))
+    family::names_one(code, plan::kind(plan, v), plan::above(plan, v))
 }
 
 // The child of u before `stop`, v where `stop` is the first, and the last child where `stop` is not among them.
@@ -55,7 +55,7 @@ fn neighbour(plan: &[u8], code: u8, v: u8) -> usize
 pub(crate) fn shape_of(plan: &[u8], code: u8, v: u8) -> table::Shape
     ensures { λ s. ⌜ s ≡ guardShape (now (plan .entry)) (codeOf code) v ⌝ }
 {
-    let b = if names_family(plan, code, v) {
+    let b = if names_one(plan, code, v) {
         neighbour(plan, code, v)
     } else {
         plan::wide(v)

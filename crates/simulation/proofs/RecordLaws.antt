@@ -1,32 +1,23 @@
 -- The record's and the list's calls: their tests, and what they leave. Assumes nothing.
-use mathlib.Core.Path.{_≡_, refl, _∙_}
+use mathlib.Core.Path.{_≡_, _∙_}
 use mathlib.Core.Bool.{Bool, true, _&&_}
 use mathlib.Core.List.{List}
-use Prim.Native.Nat.{ℕ, _+_, _*_, _/_, _%_, _≤_}
-use native.Mathlib.Omega.{arith}
+use Prim.Native.Nat.{ℕ, _*_, _/_, _%_}
 use borrow.Author.Tests.{eqb-true, ne-eqb}
 use lib.Dec.{eqb}
-use lib.ListN.{length, getD}
-use Rattle.lists.specs.Seq.{table}
+use lib.ListN.{length}
 use Rattle.lists.proofs.Logic.{and-left, and-right}
-use Rattle.lists.proofs.Table.{table-length, table-at, table-by}
 use Rattle.plan.specs.Plan.{size}
 use Rattle.plan.specs.Check.{fitNumber, Accepted}
 use Rattle.plan.proofs.FitLaws.{fit-none}
 use Rattle.plan.proofs.Main.{fit-exact}
 use Rattle.event.specs.Site.{own}
-use Rattle.central.specs.Mark.{markNumber}
 use Rattle.retention.specs.Record.{tableNumber, recordOf, recorded, classesInto}
 use Rattle.retention.proofs.RecordLaws.{classes-are}
-use Rattle.job.specs.Simulation.{stateFits, markAt, endMarks}
-use Rattle.simulation.specs.Run.{markByte, recordNumber, recordByNumber, recordByInto, runNumber}
-use Rattle.simulation.proofs.CodeLaws.{mark-byte}
-
-marks-same : (p st : List ℕ) → table (λ v. markByte (getD st (v * size p + v) 0)) (size p) ≡ endMarks p (own p) st
-unfolding endMarks
-marks-same p st =
-    let f : ℕ → ℕ = λ v. markByte (getD st (v * size p + v) 0) in
-    table-by (λ v. markNumber (markAt p (own p) st v)) (size p) (table f (size p)) (table-length f (size p)) (λ i l. table-at f (size p) i l ∙ mark-byte p st i l)
+use Rattle.job.specs.Simulation.{stateFits, endMarks}
+use Rattle.layout.specs.Layout.{Laid}
+use Rattle.simulation.specs.Run.{recordNumber, recordByNumber, recordByInto, runNumber}
+use Rattle.simulation.proofs.OwnLaws.{own-laid}
 
 module _ (p st m c : List ℕ) where
   -- the code's tests
@@ -49,23 +40,22 @@ module _ (p st m c : List ℕ) where
     unfolding recordNumber stateFits own
     tests = fit-exact p _ .none .0 zero
 
-    pub record-lengths : (n : ℕ) → n ≡ size p → (n ≤ 160) × (length st ≡ n * n) × (length m ≡ n) × (length c ≡ n)
-    record-lengths n e =
+    pub record-long : (length st ≡ size p * size p) × (length m ≡ size p) × (length c ≡ size p)
+    record-long =
         let t = tests .1 in
-        let a = and-left (eqb (length st) (size p * size p) && eqb (length m) (size p)) (eqb (length c) (size p)) t in
-        let few = tests .0 .few in (
-          omega arith,
-          rw e (eqb-true _ _ (and-left _ _ a)),
-          rw e (eqb-true _ _ (and-right (eqb (length st) (size p * size p)) _ a)),
-          rw e (eqb-true _ _ (and-right (eqb (length st) (size p * size p) && eqb (length m) (size p)) _ t)),
+        let a = and-left (eqb (length st) (size p * size p) && eqb (length m) (size p)) (eqb (length c) (size p)) t in (
+          eqb-true _ _ (and-left _ _ a),
+          eqb-true _ _ (and-right (eqb (length st) (size p * size p)) _ a),
+          eqb-true _ _ (and-right (eqb (length st) (size p * size p) && eqb (length m) (size p)) _ t),
         )
 
-    pub record-done : (tab : List ℕ) → tableNumber tab ≡ 0 → (n : ℕ) → n ≡ size p → (m′ c′ : List ℕ) → m′ ≡ table (λ v. markByte (getD st (v * n + v) 0)) n →
-        c′ ≡ classesInto p tab m′ c → recordByInto p tab st m c ≡ recorded 0 m′ c′
+    pub record-laid : Laid p (own p) st
+    record-laid = own-laid p st (tests .0) (record-long .0)
+
+    pub record-done : (tab : List ℕ) → tableNumber tab ≡ 0 → (m′ c′ : List ℕ) → m′ ≡ endMarks p (own p) st → c′ ≡ classesInto p tab m′ c → recordByInto p tab st m c ≡ recorded 0 m′ c′
     unfolding recordByInto recordByNumber recordOf
-    record-done tab ok n e m′ c′ f g =
-        let h : m′ ≡ endMarks p (own p) st = (rw e at f) ∙ marks-same p st in
-        let k : c′ ≡ recordOf p tab m′ .classes = g ∙ classes-are p tab m′ c (tests .0 .few) (record-lengths (size p) refl .3) in
+    record-done tab ok m′ c′ h g =
+        let k : c′ ≡ recordOf p tab m′ .classes = g ∙ classes-are p tab m′ c (tests .0 .few) (record-long .2) in
         rw (ok, zero, k, h)
 
 module _ (p bs st ns : List ℕ) where
@@ -77,3 +67,9 @@ module _ (p bs st ns : List ℕ) where
   pub run-long : runNumber p bs st ns ≡ 0 → length ns ≡ length bs / 3
   unfolding runNumber
   run-long z = eqb-true _ _ (and-right (stateFits p (own p) st && eqb (length bs % 3) 0) _ (fit-none p _ z .1))
+
+  pub run-laid : runNumber p bs st ns ≡ 0 → Laid p (own p) st
+  unfolding runNumber stateFits own
+  run-laid z =
+      let f = fit-exact p _ .none .0 z in
+      own-laid p st (f .0) (eqb-true _ _ (and-left _ _ (and-left (eqb (length st) (size p * size p) && eqb (length bs % 3) 0) _ (f .1))))

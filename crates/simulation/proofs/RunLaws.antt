@@ -10,18 +10,8 @@ use lib.Seq.{take-suc-set, take-length}
 use Rattle.event.specs.Site.{own}
 use Rattle.site.specs.declared.Verdict.{Verdict}
 use Rattle.site.specs.Verdict.{verdictNumber}
-use Rattle.job.specs.Simulation.{Step, stepFrom, Simulated, simulated, happen, tell, simulate, replayFrom, numbersFrom}
+use Rattle.job.specs.Simulation.{Step, stepFrom, Simulated, simulated, simulate, replayFrom, numbersFrom}
 use Rattle.simulation.specs.Run.{simulateOf, stepsFrom, stepsOf, ran, runNumber, runOf}
-
--- three numbers as a step
-module _ (p : List ℕ) (code node site : ℕ) (st : List ℕ) where
-  pub simulate-event : site ≡ 255 → simulateOf p code node site st ≡ happen p (own p) st code node
-  unfolding simulateOf stepFrom simulate
-  simulate-event e = rw e
-
-  pub simulate-message : (site ≡ 255 → ⊥) → simulateOf p code node site st ≡ tell p (own p) st code node site
-  unfolding simulateOf stepFrom simulate
-  simulate-message e = rw (ne-eqb site 255 e)
 
 -- i frames of bs were run from st₀: the state is st, and the first i of ns are their numbers
 pub record Running (p bs st₀ st ns : List ℕ) (i : ℕ) : Type 0 where

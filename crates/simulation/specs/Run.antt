@@ -1,28 +1,15 @@
 -- The functions of this crate as values: one step, the record, and a list of steps in frames (rules G3, H7, I and J1), for the layout in which
 -- every node has its own row. Each is the answer and every lent byte afterwards. Definitions only.
-use mathlib.Core.Path.{_≡_}
-use mathlib.Core.Bool.{true, cond, _&&_, not}
+use mathlib.Core.Bool.{cond, _&&_, not}
 use mathlib.Core.List.{List, [], _∷_}
-use Prim.Native.Nat.{ℕ, zero, suc, _+_, _*_, _/_, _%_, _≤_, _<_}
+use Prim.Native.Nat.{ℕ, zero, suc, _+_, _/_, _%_}
 use lib.Dec.{eqb}
 use lib.ListN.{length, getD}
 use Rattle.plan.specs.Plan.{size}
 use Rattle.plan.specs.Check.{fitNumber}
-use Rattle.event.specs.Event.{eventOf}
-use Rattle.event.specs.Site.{own, siteOf}
-use Rattle.event.specs.Bit.{hasBit}
-use Rattle.event.specs.Valid.{invalid}
+use Rattle.event.specs.Site.{own}
 use Rattle.retention.specs.Record.{commonTable, tableNumber, recordOf, Recorded, recorded, recordedAs}
 use Rattle.job.specs.Simulation.{Step, stepFrom, Simulated, simulate, stateFits, replayFrom, numbersFrom, endMarks}
-
--- B3, B4: q is the row of the event's site in a state of len bytes; a q that is no row of the plan says that the call is not valid
-pub record Placed (p : List ℕ) (len code node q : ℕ) : Type 0 where
-  pub here : q < size p → (q ≡ siteOf p (own p) (eventOf code node)) × (len ≡ size p * size p)
-  pub nowhere : size p ≤ q → invalid p (eqb len (size p * size p)) true code node ≡ 0 → ⊥
-
--- B6: a mark by a byte of the node's own row, the first that fits
-unfoldable pub markByte : ℕ → ℕ
-markByte b = cond (hasBit b 3) 3 (cond (hasBit b 4) 4 (cond (hasBit b 8) 5 (cond (hasBit b 2) 2 (cond (hasBit b 1) 1 0))))
 
 -- I2, J1: one step, from three numbers
 unfoldable pub simulateOf : List ℕ → ℕ → ℕ → ℕ → List ℕ → Simulated

@@ -14,7 +14,7 @@ use Rattle.site.specs.declared.Refusal.{Refusal}
 use Rattle.site.specs.declared.Refusal.the-variants.{Invalid, Barred, Unmet}
 use Rattle.site.specs.declared.Verdict.the-variants.{Refused}
 use Rattle.row.specs.Row.{heard}
-use Rattle.site.specs.Step.{stepped, stepInvalid, siteAt, decide, stepOf}
+use Rattle.site.specs.Step.{stepped, stepInvalid, siteAt, decide, stepAt, stepOf}
 use Rattle.site.specs.Only.{Declined, NeverDown, OnlyChild}
 
 -- one of three refusals by two tests
@@ -38,7 +38,7 @@ module _ (p : List ℕ) (v : ℕ) (only : children p (parent p v) ≡ v ∷ []) 
   down-unmet heard = rw (no-others, and-false)
 
   down-declined : (row : List ℕ) → Declined row (stepOf p 8 v row)
-  unfolding stepOf decide codeOf
+  unfolding stepAt decide codeOf
   down-declined row =
       let n = stepInvalid p 8 v row in
       let q = siteAt p 8 v in

@@ -17,7 +17,7 @@ use Rattle.row.specs.Row.{heard, hear}
 use Rattle.site.specs.declared.Refusal.the-variants.{Invalid, Barred, Unmet}
 use Rattle.site.specs.declared.Verdict.the-variants.{Passed, Heard, Refused}
 use Rattle.site.specs.Verdict.{reportOf, verdictNumber}
-use Rattle.site.specs.Step.{Stepped, stepped, stepInvalid, siteAt, decide, stepOf, hearOf}
+use Rattle.site.specs.Step.{Stepped, stepped, stepInvalid, decide, stepAt, hearOf}
 
 -- one of three by two tests
 three : {A : Type 0} (P : Bool → Bool → A → Type 0) {x y z : A} → ((g : Bool) → P true g x) → P false false y → P false true z →
@@ -26,75 +26,83 @@ three P x y z true g = x g
 three P x y z false false = y
 three P x y z false true = z
 
+-- MESSAGES
 module _ (p : List ℕ) (code node : ℕ) (row : List ℕ) where
-  -- TESTS: none failed
-  module _ (h : stepInvalid p code node row ≡ 0) where
-    pub step-tested : Valid p (eqb (length row) (size p)) true code node
-    unfolding stepInvalid
-    step-tested = valid p (eqb (length row) (size p)) true code node h
+  pub hear-valid : stepInvalid p code node row ≡ 0 → hearOf p code node row ≡ stepped (hear row code node) Heard
+  unfolding hearOf
+  hear-valid h = rw (eq-eqb (stepInvalid p code node row) 0 h)
 
-    pub hear-valid : hearOf p code node row ≡ stepped (hear row code node) Heard
-    unfolding hearOf
-    hear-valid = rw (eq-eqb (stepInvalid p code node row) 0 h)
+  pub hear-invalid : (n : ℕ) → n ≡ stepInvalid p code node row → (n ≡ 0 → ⊥) → hearOf p code node row ≡ stepped row (Refused (Invalid n))
+  unfolding hearOf
+  hear-invalid n e h = rw (← e, ne-eqb n 0 h)
 
-    pub step-valid : stepOf p code node row ≡ decide p code node row
-    unfolding stepOf
-    step-valid = rw (eq-eqb (stepInvalid p code node row) 0 h)
+-- STEPS, of site q
+pub step-tested : (p : List ℕ) (code node : ℕ) (row : List ℕ) → stepInvalid p code node row ≡ 0 → Valid p (eqb (length row) (size p)) true code node
+unfolding stepInvalid
+step-tested p code node row h = valid p (eqb (length row) (size p)) true code node h
 
-  -- number n failed
-  module _ (n : ℕ) (e : n ≡ stepInvalid p code node row) (h : n ≡ 0 → ⊥) where
-    pub hear-invalid : hearOf p code node row ≡ stepped row (Refused (Invalid n))
-    unfolding hearOf
-    hear-invalid = rw (← e, ne-eqb n 0 h)
+module _ (p : List ℕ) (q code node : ℕ) (row : List ℕ) where
+  pub step-valid : stepInvalid p code node row ≡ 0 → stepAt p q code node row ≡ decide p q code node row
+  unfolding stepAt
+  step-valid h = rw (eq-eqb (stepInvalid p code node row) 0 h)
 
-    pub step-invalid : stepOf p code node row ≡ stepped row (Refused (Invalid n))
-    unfolding stepOf
-    step-invalid = rw (← e, ne-eqb n 0 h)
+  pub step-invalid : (n : ℕ) → n ≡ stepInvalid p code node row → (n ≡ 0 → ⊥) → stepAt p q code node row ≡ stepped row (Refused (Invalid n))
+  unfolding stepAt
+  step-invalid n e h = rw (← e, ne-eqb n 0 h)
 
   -- DECISIONS: 10, 11 and 0
   abbrev pub decision-10 : Stepped
-  decision-10 = stepped row (Refused (Barred (siteAt p code node)))
+  decision-10 = stepped row (Refused (Barred q))
 
   abbrev pub decision-11 : Stepped
-  decision-11 = stepped row (Refused (Unmet (siteAt p code node)))
+  decision-11 = stepped row (Refused (Unmet q))
 
   abbrev pub decision-0 : Stepped
-  decision-0 = stepped (hear row code node) (Passed (record { code = code; node = node; site = siteAt p code node; rule = ruleByte p (eventOf code node) }))
+  decision-0 = stepped (hear row code node) (Passed (record { code = code; node = node; site = q; rule = ruleByte p (eventOf code node) }))
 
-  pub decide-barred : barred p (heard row) (eventOf code node) ≡ true → decide p code node row ≡ decision-10
+  pub decide-barred : barred p (heard row) (eventOf code node) ≡ true → decide p q code node row ≡ decision-10
   unfolding decide
   decide-barred b = rw b
 
   module _ (free : barred p (heard row) (eventOf code node) ≡ false) where
-    pub decide-unmet : holds (heard row) (guard p (eventOf code node)) ≡ false → decide p code node row ≡ decision-11
+    pub decide-unmet : holds (heard row) (guard p (eventOf code node)) ≡ false → decide p q code node row ≡ decision-11
     unfolding decide
     decide-unmet g = rw (free, g)
 
-    pub decide-passed : holds (heard row) (guard p (eventOf code node)) ≡ true → decide p code node row ≡ decision-0
+    pub decide-passed : holds (heard row) (guard p (eventOf code node)) ≡ true → decide p q code node row ≡ decision-0
     unfolding decide
     decide-passed g = rw (free, g)
 
   -- what holds of the three holds of the decision. P also has whether the event is barred, and whether its guard holds
   decide-by : (P : Bool → Bool → Stepped → Type 0) → ((g : Bool) → P true g decision-10) → P false false decision-11 → P false true decision-0 →
-      P (barred p (heard row) (eventOf code node)) (holds (heard row) (guard p (eventOf code node))) (decide p code node row)
+      P (barred p (heard row) (eventOf code node)) (holds (heard row) (guard p (eventOf code node))) (decide p q code node row)
   unfolding decide
   decide-by P x y z = three P x y z (barred p (heard row) (eventOf code node)) (holds (heard row) (guard p (eventOf code node)))
 
   -- the same of a step, with an invalid call's answer besides. P also has whether the call is valid
   pub step-by : (P : Bool → Bool → Bool → Stepped → Type 0) → ((n : ℕ) → (n ≡ 0 → ⊥) → (b g : Bool) → P false b g (stepped row (Refused (Invalid n)))) →
       ((g : Bool) → P true true g decision-10) → P true false false decision-11 → P true false true decision-0 →
-      P (eqb (stepInvalid p code node row) 0) (barred p (heard row) (eventOf code node)) (holds (heard row) (guard p (eventOf code node))) (stepOf p code node row)
+      P (eqb (stepInvalid p code node row) 0) (barred p (heard row) (eventOf code node)) (holds (heard row) (guard p (eventOf code node))) (stepAt p q code node row)
   step-by P w x y z = cases (decided (eqb (stepInvalid p code node row) 0))
       (λ e. rw (e, step-valid (eqb-true _ 0 e)) (decide-by (P true) x y z))
       (λ e. let h = eqb-false (stepInvalid p code node row) 0 e in rw (e, step-invalid (stepInvalid p code node row) refl h) (w (stepInvalid p code node row) h _ _))
 
   -- which events pass
-  pub step-passes : eqb (verdictNumber (stepOf p code node row .verdict)) 0
+  pub step-passes : eqb (verdictNumber (stepAt p q code node row .verdict)) 0
       ≡ (eqb (stepInvalid p code node row) 0 && (not (barred p (heard row) (eventOf code node)) && holds (heard row) (guard p (eventOf code node))))
   unfolding reportOf
   step-passes = step-by (λ v b g s. eqb (verdictNumber (s .verdict)) 0 ≡ (v && (not b && g))) (λ n h b g. ne-eqb n 0 h) (λ g. refl) refl refl
 
   -- an event that passes is set, and a refused step leaves the row
-  pub step-leaves : stepOf p code node row .row ≡ cond (eqb (verdictNumber (stepOf p code node row .verdict)) 0) (hear row code node) row
+  pub step-leaves : stepAt p q code node row .row ≡ cond (eqb (verdictNumber (stepAt p q code node row .verdict)) 0) (hear row code node) row
   unfolding reportOf
   step-leaves = step-by (λ v b g s. s .row ≡ cond (eqb (verdictNumber (s .verdict)) 0) (hear row code node) row) (λ n h b g. rw (ne-eqb n 0 h)) (λ g. refl) refl refl
+
+-- the number of a step is the same whatever number its site has
+pub number-any-site : (p : List ℕ) (q r code node : ℕ) (row : List ℕ) → verdictNumber (stepAt p q code node row .verdict) ≡ verdictNumber (stepAt p r code node row .verdict)
+unfolding stepAt decide reportOf
+number-any-site p q r code node row = cases (decided (eqb (stepInvalid p code node row) 0))
+    (λ i. cases (decided (barred p (heard row) (eventOf code node)))
+    (λ b. rw (i, b))
+    (λ b. cases (decided (holds (heard row) (guard p (eventOf code node)))) (λ g. rw (i, b, g)) (λ g. rw (i, b, g))))
+    (λ i. rw i)

@@ -1,18 +1,16 @@
 -- A site's step and a message to it (rules H16 and H17), each as one value: the answer and the row. Definitions only.
-use mathlib.Core.Bool.{Bool, true, cond, not}
+use mathlib.Core.Bool.{true, cond, not}
 use mathlib.Core.List.{List}
 use Prim.Native.Nat.{ℕ}
 use lib.Dec.{eqb}
 use lib.ListN.{length}
 use Rattle.plan.specs.Plan.{size}
-use Rattle.event.specs.Event.{Event, eventOf}
+use Rattle.event.specs.Event.{eventOf}
 use Rattle.event.specs.Site.{own, siteOf}
 use Rattle.event.specs.Valid.{invalid}
 use Rattle.guard.specs.Guard.{guard, holds, barred}
 use Rattle.guard.specs.Rule.{ruleByte}
 use Rattle.row.specs.Row.{heard, hear}
-use Rattle.site.specs.declared.PassedEvent.{PassedEvent}
-use Rattle.site.specs.declared.Refusal.{Refusal}
 use Rattle.site.specs.declared.Refusal.the-variants.{Invalid, Barred, Unmet}
 use Rattle.site.specs.declared.Verdict.{Verdict}
 use Rattle.site.specs.declared.Verdict.the-variants.{Passed, Heard, Refused}
@@ -33,18 +31,22 @@ stepInvalid p code node row = invalid p (eqb (length row) (size p)) true code no
 abbrev pub siteAt : List ℕ → ℕ → ℕ → ℕ
 siteAt p code node = siteOf p (own p) (eventOf code node)
 
--- H10, H11, or the event passes and is set
-unfoldable pub decide : List ℕ → ℕ → ℕ → List ℕ → Stepped
-decide p code node row =
-    cond (barred p (heard row) (eventOf code node)) (stepped row (Refused (Barred (siteAt p code node))))
-    (cond (not (holds (heard row) (guard p (eventOf code node)))) (stepped row (Refused (Unmet (siteAt p code node))))
-    (stepped (hear row code node) (Passed (record { code = code; node = node; site = siteAt p code node; rule = ruleByte p (eventOf code node) }))))
+-- H10, H11, or the event passes and is set; the number q of the site goes with each
+unfoldable pub decide : List ℕ → ℕ → ℕ → ℕ → List ℕ → Stepped
+decide p q code node row =
+    cond (barred p (heard row) (eventOf code node)) (stepped row (Refused (Barred q)))
+    (cond (not (holds (heard row) (guard p (eventOf code node)))) (stepped row (Refused (Unmet q)))
+    (stepped (hear row code node) (Passed (record { code = code; node = node; site = q; rule = ruleByte p (eventOf code node) }))))
 
--- H16: the tests, and then the decision
-unfoldable pub stepOf : List ℕ → ℕ → ℕ → List ℕ → Stepped
-stepOf p code node row =
+-- H16: a step of site q: the tests, and then the decision
+unfoldable pub stepAt : List ℕ → ℕ → ℕ → ℕ → List ℕ → Stepped
+stepAt p q code node row =
     cond (not (eqb (stepInvalid p code node row) 0)) (stepped row (Refused (Invalid (stepInvalid p code node row))))
-    (decide p code node row)
+    (decide p q code node row)
+
+-- B4, H16: where every node has its own site
+abbrev pub stepOf : List ℕ → ℕ → ℕ → List ℕ → Stepped
+stepOf p code node row = stepAt p (siteAt p code node) code node row
 
 -- H17: the event is set. A site cannot know whether a message is true
 unfoldable pub hearOf : List ℕ → ℕ → ℕ → List ℕ → Stepped

@@ -1,6 +1,5 @@
 -- The report of every verdict: its number, its site and its rule (rules C10, H10 to H12, H16, H17 and K1). Definitions only.
 use Prim.Native.Nat.{ℕ}
-use Rattle.site.specs.declared.PassedEvent.{PassedEvent}
 use Rattle.site.specs.declared.Report.{Report}
 use Rattle.site.specs.declared.Refusal.the-variants.{Invalid, Barred, Unmet, Untrue}
 use Rattle.site.specs.declared.Verdict.{Verdict}

@@ -1,9 +1,12 @@
 // What one site does: it steps an event on its own row, and hears of events that happened elsewhere. What a step and a message mean is
-// specs/Step.antt: one equation for the answer and every lent byte. No public function has a `requires`: a call that is not valid is refused
-// with the number of the test that failed.
+// specs/Step.antt: one equation for the answer and every lent byte. A call of `step` or `hear` that is not valid is refused with the number of the
+// test that failed; `decide` is the part of a step behind the tests, for callers that have made them.
 ghost use mathlib.Core.Path.{_≡_};
+ghost use Prim.Native.Nat.{_<_};
+ghost use Rattle.plan.specs.Plan.{size};
+ghost use Rattle.plan.specs.Check.{Accepted};
 ghost use Rattle.site.specs.Verdict.{reported, reportOf};
-ghost use Rattle.site.specs.Step.{stepped, stepOf, hearOf};
+ghost use Rattle.site.specs.Step.{stepped, decide, stepOf, hearOf};
 
 // An event that passed, with its site and the rule behind its guard.
 pub struct PassedEvent {
@@ -69,7 +72,28 @@ pub fn hear(plan: &[u8], code: u32, node: u32, row: &mut [u8]) -> Verdict
     Verdict::Heard
 }
 
-// A step of the event's site on that site's row: the tests, the bars, the guard, and then the event is set.
+// What a site decides of an event on its row, where the tests have passed: the bars, the guard, and then the event is set. The answer names the site.
+pub fn decide(plan: &[u8], site: u8, code: u8, node: u8, row: &mut [u8]) -> Verdict
+    requires { ⌜ (Accepted (now plan)) × (node < size (now plan)) ⌝ }
+    ensures { λ r. ⌜ decide (now (plan .entry)) site code node (now (row .entry)) ≡ stepped (now (row .exit)) r ⌝ }
+{
+    if row::is_barred(plan, code, node, row) {
+        return Verdict::Refused(Refusal::Barred(site));
+    }
+    if !row::guard_holds(plan, code, node, row) {
+        return Verdict::Refused(Refusal::Unmet(site));
+    }
+    row::set_heard(row, code, node);
+    let rule = guard::rule_byte::rule_number(plan, code, node) as u8;
+    Verdict::Passed(PassedEvent {
+        code,
+        node,
+        site,
+        rule,
+    })
+}
+
+// A step of the event's site on that site's row: the tests, and then the decision.
 pub fn step(plan: &[u8], code: u32, node: u32, row: &mut [u8]) -> Verdict
     ensures { λ r. ⌜ stepOf (now (plan .entry)) code node (now (row .entry)) ≡ stepped (now (row .exit)) r ⌝ }
 {
@@ -80,19 +104,5 @@ pub fn step(plan: &[u8], code: u32, node: u32, row: &mut [u8]) -> Verdict
     }
     let k = code as u8;
     let v = node as u8;
-    let site = event::host(plan, k, v);
-    if row::is_barred(plan, k, v, row) {
-        return Verdict::Refused(Refusal::Barred(site));
-    }
-    if !row::guard_holds(plan, k, v, row) {
-        return Verdict::Refused(Refusal::Unmet(site));
-    }
-    row::set_heard(row, k, v);
-    let rule = guard::rule_byte::rule_number(plan, k, v) as u8;
-    Verdict::Passed(PassedEvent {
-        code: k,
-        node: v,
-        site,
-        rule,
-    })
+    decide(plan, event::host(plan, k, v), k, v, row)
 }

@@ -1,4 +1,4 @@
--- The guard writer's answer, a ruling, a verdict and a text's answer, as results. Assumes nothing.
+-- The guard writer's answer, a ruling, a verdict, a text's answer, a kept step and a take-back, as results. Assumes nothing.
 use mathlib.Core.Path.{_≡_, sym, ap, _∙_}
 use mathlib.Core.List.{List}
 use Prim.Native.Nat.{ℕ, _+_, _*_, _≤_}
@@ -16,7 +16,10 @@ use Rattle.central.specs.Rule.{Ruled, ruled}
 use Rattle.central.specs.declared.Ruling.{Ruling}
 use Rattle.script.specs.Script.{TextRun, textRun}
 use Rattle.script.specs.declared.TextResult.{TextResult}
-use Rattle.vulcedar.specs.Result.{result, ofWritten, ofVerdict, ofRuling, ofText}
+use Rattle.job.specs.Simulation.{simulated}
+use Rattle.journal.specs.declared.Entry.{Entry}
+use Rattle.journal.specs.Journal.{Kept, kept, Undone, undone}
+use Rattle.vulcedar.specs.Result.{result, ofWritten, ofVerdict, ofRuling, ofText, AsKept, AsUndone}
 
 module _ (p : List ℕ) (code node : ℕ) (b b′ : List ℕ) (w : Written) (h : writeOf p code node b ≡ filled b′ w) where
   pub done-short : (g : WrittenGuard) → w ≡ Done g → g .length ≤ 290
@@ -50,3 +53,20 @@ unfolding ofText
 text-result s b r h q e =
     let z : q + 65536 * r .length ≡ result (r .number) 0 (r .length) = omega arith in
     (z ∙ sym (ap (λ x. ofText (x .result)) h), sym (ap (λ x. x .out) h))
+
+-- a kept step's result, and all that is lent beside it
+pub kept-result : (a : Kept) (st : List ℕ) (v : Verdict) (es : List Entry) (k : ℕ) → a ≡ kept (simulated st v) es k → (r : ℕ) → r ≡ ofVerdict v → AsKept a r st es k
+kept-result a st v es k h r e = record {
+  told = e ∙ sym (ap (λ x. ofVerdict (x .step .verdict)) h);
+  state = sym (ap (λ x. x .step .state) h);
+  entries = sym (ap (λ x. x .entries) h);
+  count = sym (ap (λ x. x .count) h);
+}
+
+-- a take-back's result, and all that is lent beside it
+pub undone-result : (a : Undone) (n : ℕ) (st : List ℕ) (k : ℕ) → a ≡ undone n st k → (r : ℕ) → r ≡ result n 0 0 → AsUndone a r st k
+undone-result a n st k h r e = record {
+  told = e ∙ sym (ap (λ x. result (x .number) 0 0) h);
+  state = sym (ap (λ x. x .state) h);
+  count = sym (ap (λ x. x .count) h);
+}

@@ -1,4 +1,6 @@
 -- Results for C (rules K). Definitions only.
+use mathlib.Core.Path.{_≡_}
+use mathlib.Core.List.{List}
 use Prim.Native.Nat.{ℕ, _+_, _*_}
 use Rattle.guard.specs.Rule.{FoundRule}
 use Rattle.writer.specs.declared.Written.{Written}
@@ -9,10 +11,12 @@ use Rattle.site.specs.Verdict.{reportOf}
 use Rattle.central.specs.Rule.{rulingNumber, rulingValue}
 use Rattle.central.specs.declared.Ruling.{Ruling}
 use Rattle.script.specs.declared.TextResult.{TextResult}
+use Rattle.journal.specs.declared.Entry.{Entry}
+use Rattle.journal.specs.Journal.{Kept, Undone}
 
--- K5: 1.0.0, as 65536 times its first number, 256 times its second, and its third
+-- K5: 1.1.0, as 65536 times its first number, 256 times its second, and its third
 unfoldable pub version : ℕ
-version = 65536 * 1 + 256 * 0 + 0
+version = 65536 * 1 + 256 * 1 + 0
 
 -- K1: the number in bits 0 to 7, the event's site in bits 8 to 15, a value in bits 16 to 31
 abbrev pub result : ℕ → ℕ → ℕ → ℕ
@@ -40,3 +44,16 @@ ofRuling r = result (rulingNumber r) 0 (rulingValue r)
 -- K4: the length printed is the value
 unfoldable pub ofText : TextResult → ℕ
 ofText r = result (r .number) 0 (r .length)
+
+-- L2, L9: what a kept step answers and leaves
+pub record AsKept (a : Kept) (answer : ℕ) (st : List ℕ) (es : List Entry) (k : ℕ) : Type 0 where
+  pub told : answer ≡ ofVerdict (a .step .verdict)
+  pub state : st ≡ a .step .state
+  pub entries : es ≡ a .entries
+  pub count : k ≡ a .count
+
+-- L3, L9: what a take-back answers and leaves; the entries stay, since they are lent to be read only
+pub record AsUndone (a : Undone) (answer : ℕ) (st : List ℕ) (k : ℕ) : Type 0 where
+  pub told : answer ≡ result (a .number) 0 0
+  pub state : st ≡ a .state
+  pub count : k ≡ a .count

@@ -1,7 +1,10 @@
 // The C interface (include/vulcedar.h): exported functions, nothing else. Numbers are 32 bits wide and are not cut, a slice is a pointer and
 // a length, and every length is tested inside. What a result holds is specs/Result.antt.
 ghost use mathlib.Core.Path.{_≡_};
-ghost use Prim.Native.Nat.{_+_, _*_};
+ghost use mathlib.Core.List.{List};
+ghost use Prim.Native.Nat.{_+_, _-_, _*_};
+ghost use lib.ListN.{length, getD, set};
+ghost use Rattle.journal.specs.Journal.{noEntry};
 ghost use Rattle.plan.specs.Check.{checkNumber};
 ghost use Rattle.rewrite.specs.Rewrite.{rewriteOf};
 ghost use Rattle.checker.specs.Depths.{depthsOf};
@@ -15,7 +18,9 @@ ghost use Rattle.retention.specs.Record.{tableNumber};
 ghost use Rattle.pass_record.specs.PassRecord.{passRecordInto};
 ghost use Rattle.simulation.specs.Run.{simulateOf, recordByInto, recordInto};
 ghost use Rattle.script.specs.Script.{runTextInto};
-ghost use Rattle.vulcedar.specs.Result.{version, result, ofWritten, ofFoundRule, ofVerdict, ofRuling, ofText};
+ghost use Rattle.keeping.specs.Keeping.{keepOwn, undoOwn};
+ghost use Rattle.vulcedar.specs.Result.{version, result, ofWritten, ofFoundRule, ofVerdict, ofRuling, ofText, AsKept, AsUndone};
+use journal::Entry;
 
 fn packed(number: u8, site: u8) -> u32
     ensures { λ r. ⌜ r ≡ result number site 0 ⌝ }
@@ -51,7 +56,7 @@ fn of_verdict(v: site::Verdict) -> u32
 pub extern "C" fn vulcedar_version() -> u32
     ensures { λ r. ⌜ r ≡ version ⌝ }
 {
-    65536
+    65792
 }
 
 #[no_mangle]
@@ -138,6 +143,79 @@ pub extern "C" fn vulcedar_simulate(
     ensures { λ r. ⌜ now (state .exit) ≡ simulateOf (now (plan .entry)) code node site (now (state .entry)) .state ⌝ }
 {
     of_verdict(simulation::simulate(plan, code, node, site, state))
+}
+
+// The result of a kept step, and where its entry goes: past the end of the entries where it was refused.
+struct KeptResult {
+    result: u32,
+    at: usize,
+    entry: Entry,
+}
+
+fn keep_result(
+    plan: &[u8],
+    code: u32,
+    node: u32,
+    site: u32,
+    state: &mut [u8],
+    len: usize,
+    count: &mut usize,
+) -> KeptResult
+    ensures { λ r. ⌜ ((es : List Entry) → length es ≡ len → AsKept (keepOwn (now (plan .entry)) (now (state .entry)) es (now (count .entry)) code node site) (r .result) (now (state .exit)) (set es (r .at) (r .entry)) (now (count .exit))) ⌝ }
+{
+    let a = keeping::keep(plan, code, node, site, state, len, count);
+    let verdict = a.verdict;
+    let entry = a.entry;
+    KeptResult {
+        result: of_verdict(verdict),
+        at: a.at,
+        entry,
+    }
+}
+
+#[no_mangle]
+pub extern "C" fn vulcedar_keep(
+    plan: &[u8],
+    code: u32,
+    node: u32,
+    site: u32,
+    state: &mut [u8],
+    entries: &mut [Entry],
+    count: &mut usize,
+) -> u32
+    ensures { λ r. ⌜ AsKept (keepOwn (now (plan .entry)) (now (state .entry)) (now (entries .entry)) (now (count .entry)) code node site) r (now (state .exit)) (now (entries .exit)) (now (count .exit)) ⌝ }
+{
+    let len = entries.len();
+    let a = keep_result(plan, code, node, site, state, len, count);
+    journal::append(entries, a.at, a.entry);
+    a.result
+}
+
+fn undo_result(plan: &[u8], state: &mut [u8], len: usize, count: &mut usize, e: Entry) -> u32
+    ensures { λ r. ⌜ ((es : List Entry) → length es ≡ len → getD es (now (count .entry) - 1) noEntry ≡ e → AsUndone (undoOwn (now (plan .entry)) (now (state .entry)) es (now (count .entry))) r (now (state .exit)) (now (count .exit))) ⌝ }
+{
+    packed(keeping::undo(plan, state, len, count, e), 0)
+}
+
+// The place of the last of so many.
+fn last_place(count: usize) -> usize
+    ensures { λ r. ⌜ r ≡ count - 1 ⌝ }
+{
+    if count == 0 { 0 } else { count - 1 }
+}
+
+#[no_mangle]
+pub extern "C" fn vulcedar_undo(
+    plan: &[u8],
+    state: &mut [u8],
+    entries: &[Entry],
+    count: &mut usize,
+) -> u32
+    ensures { λ r. ⌜ AsUndone (undoOwn (now (plan .entry)) (now (state .entry)) (now (entries .entry)) (now (count .entry))) r (now (state .exit)) (now (count .exit)) ⌝ }
+{
+    let len = entries.len();
+    let e = journal::entry_at(entries, last_place(*count));
+    undo_result(plan, state, len, count, e)
 }
 
 #[no_mangle]

@@ -8,7 +8,7 @@ use Rattle.lists.specs.Seq.{keep, upFrom, allBelow, lastOr, headOr}
 use Rattle.plan.specs.Plan.{kindNumber, isKind, kindOf, size, kindByte, kind, parent, childrenBelow, children, childCount, others, above, inXor, depthWithin, depth}
 use Rattle.plan.specs.Check.{lengthOk, kindOk, parentOk, underBlock, fits, countOk, depthOk, atAll, checkNumber, fitNumber}
 use Rattle.event.specs.Event.{codeNumber, codeOf, isCode, eventOf, appliesBy, applies, known}
-use Rattle.event.specs.Valid.{invalid}
+use Rattle.event.specs.Valid.{eventFault, invalid}
 use Rattle.guard.specs.Guard.{isFirst, beforeIn, startBy, finishBy, abortBy, finishing, aborting, guardBy, guard}
 use Rattle.guard.specs.Rule.{ruleByte}
 use Rattle.guard.specs.Bytes.{encEvents, encClauses, encode}
@@ -68,6 +68,6 @@ table =
 
 pub all-right : map (λ k. writeOf (k .plan) (k .code) (k .node) (k .buffer)) table ≡ map (λ k. filled (k .left) (k .answer)) table
 unfolding table writes refuses planP tasks xorOf lastChance branch both writeOf fitted encode encClauses encEvents codeNumber guard guardBy startBy finishBy
-    abortBy finishing aborting isFirst headOr beforeIn lastOr codeOf isCode appliesBy applies known invalid kindNumber isKind kindOf size kindByte kind parent
+    abortBy finishing aborting isFirst headOr beforeIn lastOr codeOf isCode appliesBy applies known eventFault invalid kindNumber isKind kindOf size kindByte kind parent
     childrenBelow children childCount others above inXor depthWithin depth keep upFrom allBelow lengthOk kindOk parentOk underBlock fits countOk depthOk atAll checkNumber fitNumber
 all-right = refl

@@ -4,12 +4,13 @@
 use crate::fixture::{Fixture, PlacedStep};
 use differential::Implementation;
 use differential::driver::Step;
+use differential::implementation::Entry;
 use differential::tables::COMMON;
 use differential::texts::OUT_BYTES;
 use std::hint::black_box;
 
 /// The measured functions.
-pub const NAMES: [&str; 15] = [
+pub const NAMES: [&str; 17] = [
     "check",
     "depths",
     "rewrite",
@@ -19,6 +20,8 @@ pub const NAMES: [&str; 15] = [
     "hear",
     "pass",
     "simulate",
+    "keep",
+    "undo",
     "record",
     "record_by",
     "check_table",
@@ -30,6 +33,10 @@ pub const NAMES: [&str; 15] = [
 /// One key typed in a plan: a byte changes, and the plan is checked with its
 /// depths. Every byte of the plan is changed once, to each of two others.
 pub const KEY: &str = "key";
+
+/// How many entries a journal has. Half of them are steps: the others are free
+/// for what is kept, and the last step is what is taken back.
+const PLACES: usize = 64;
 
 /// How often functions without events are called in a round.
 const CALLS: usize = 100;
@@ -43,6 +50,7 @@ pub struct Work {
     more: Vec<u8>,
     rewritten: Vec<u8>,
     lines: Vec<u8>,
+    entries: Vec<Entry>,
 }
 
 impl Work {
@@ -57,6 +65,7 @@ impl Work {
             more: vec![0; nodes],
             rewritten: vec![0; 2 * nodes],
             lines: vec![0; OUT_BYTES],
+            entries: vec![[0; 4]; PLACES],
         }
     }
 
@@ -67,7 +76,7 @@ impl Work {
             "check_table" | "pass_record" => CALLS,
             "rehearse" => 1,
             KEY => 2 * self.fixture.plan.len(),
-            "simulate" => self.fixture.steps.len(),
+            "simulate" | "keep" | "undo" => self.fixture.steps.len(),
             _ => self.fixture.events.len(),
         }
     }
@@ -108,6 +117,8 @@ impl Work {
             "step" => self.steps(subject),
             "hear" => self.hears(subject),
             "simulate" => self.simulations(subject),
+            "keep" => self.keeps(subject),
+            "undo" => self.undos(subject),
             "central" => self.centrals(subject),
             other => panic!("no work for {other}"),
         }
@@ -166,11 +177,35 @@ impl Work {
     }
 
     fn simulations(&mut self, subject: &mut impl Implementation) -> u32 {
+        self.on_states(|plan, Step { code, node, site }, state, _| {
+            subject.simulate(plan, code, node, site, state)
+        })
+    }
+
+    /// Each step at the same place, whose entry no other call reads.
+    fn keeps(&mut self, subject: &mut impl Implementation) -> u32 {
+        self.on_states(|plan, step, state, entries| {
+            let mut count = PLACES / 2;
+            subject.keep(plan, step, state, entries, black_box(&mut count)) + count as u32
+        })
+    }
+
+    /// Each step as the last entry.
+    fn undos(&mut self, subject: &mut impl Implementation) -> u32 {
+        self.on_states(|plan, Step { code, node, site }, state, entries| {
+            let mut count = PLACES / 2;
+            entries[count - 1] = [code as u8, node as u8, site as u8, 1];
+            subject.undo(plan, state, entries, black_box(&mut count)) + count as u32
+        })
+    }
+
+    /// Each step on the state.
+    fn on_states(&mut self, mut call: impl FnMut(&[u8], Step, &mut [u8], &mut [Entry]) -> u32) -> u32 {
         let Fixture { plan, steps, state, .. } = &mut self.fixture;
         let mut sum = 0;
-        for &PlacedStep { step: Step { code, node, site }, place } in steps.iter() {
+        for &PlacedStep { step, place } in steps.iter() {
             let before = state[place];
-            sum = mix(sum, subject.simulate(black_box(plan), code, node, site, state));
+            sum = mix(sum, call(black_box(plan), step, state, &mut self.entries));
             state[place] = before;
         }
         sum

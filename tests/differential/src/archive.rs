@@ -1,7 +1,9 @@
 //! The C archive, and the program `rehearse` beside it.
 
+use crate::driver::Step;
 use crate::implementation::Implementation;
 use crate::program::Program;
+use vulcedar::Entry;
 
 /// The archive's functions, and the program.
 pub struct Archive {
@@ -44,6 +46,21 @@ impl Implementation for Archive {
 
     fn simulate(&mut self, plan: &[u8], code: u32, node: u32, site: u32, state: &mut [u8]) -> u32 {
         vulcedar::simulate(plan, code, node, site, state)
+    }
+
+    fn keep(
+        &mut self,
+        plan: &[u8],
+        step: Step,
+        state: &mut [u8],
+        entries: &mut [Entry],
+        count: &mut usize,
+    ) -> u32 {
+        vulcedar::keep(plan, step.code, step.node, step.site, state, entries, count)
+    }
+
+    fn undo(&mut self, plan: &[u8], state: &mut [u8], entries: &mut [Entry], count: &mut usize) -> u32 {
+        vulcedar::undo(plan, state, entries, count)
     }
 
     fn record(&mut self, plan: &[u8], state: &[u8], marks: &mut [u8], classes: &mut [u8]) -> u32 {

@@ -2,8 +2,8 @@
 //! tell them from the reference would be worth nothing.
 
 use crate::codes::*;
-use crate::driver::Tree;
-use crate::implementation::{Implementation, Reference};
+use crate::driver::{Step, Tree};
+use crate::implementation::{Entry, Implementation, Reference};
 use crate::tables;
 use crate::texts::{OUT_BYTES, Sound};
 
@@ -183,6 +183,54 @@ pub enum Mistake {
     VersionOneHigher,
     /// In a simulation an event is decided by what anybody has heard.
     SimulationSeesAllRows,
+    /// A full journal's 7 comes after what the step is refused for.
+    FullJournalFindsStepFirst,
+    /// A step on a full journal passes and is not kept.
+    FullJournalForgets,
+    /// A refused step has already written its entry.
+    RefusedKeepWrites,
+    /// A refused step is counted as one that is kept.
+    RefusedStepIsKept,
+    /// A repeat's entry says that it set its bit.
+    ChangedAlwaysOne,
+    /// An event's entry has its site instead of ff.
+    EventKeptWithItsSite,
+    /// A message's entry has ff instead of who heard it.
+    MessageKeptAsEvent,
+    /// The entries behind a kept step are cleared.
+    KeepClearsTheRest,
+    /// A kept event hands on neither site nor rule.
+    KeepAnswersNumberAlone,
+    /// Taking a repeat back clears its bit.
+    RepeatUndoClears,
+    /// Taking a message back clears the bit in the event's own row.
+    MessageUndoAtTheEvent,
+    /// Taking a pick back clears the bit in the child's row.
+    PickUndoAtTheChild,
+    /// Only a changed byte of 1 says that a bit was set.
+    UndoOnlyIfOne,
+    /// Taking back sets a bit that is not set.
+    UndoTogglesTheBit,
+    /// Taking back clears all bits of the node.
+    UndoClearsTheByte,
+    /// Taking back is refused where the bit is not set.
+    UndoNeedsTheBit,
+    /// An entry whose event does not apply is taken back.
+    UndoOfAnything,
+    /// An entry that set nothing is not looked at.
+    UndoTrustsRepeats,
+    /// The entry at the count is taken back, not the last one.
+    UndoTakesTheNextPlace,
+    /// The entry of a step that is taken back is cleared.
+    UndoRewritesTheEntry,
+    /// A take-back answers with the event's site.
+    UndoAnswersTheSite,
+    /// 16 comes before a wrong length of the state.
+    NoStepBeforeLength,
+    /// A refused take-back lowers the count.
+    RefusedUndoCounts,
+    /// A count above the entries is taken as their number.
+    CountAboveIsCut,
     /// A site refuses to hear a second time.
     HearRefusesRepeats,
     /// One level more than there may be.
@@ -201,7 +249,7 @@ pub enum Mistake {
 
 impl Mistake {
     /// All mistakes; the first is number 1.
-    pub const ALL: [Mistake; 93] = [
+    pub const ALL: [Mistake; 117] = [
         Mistake::CommitUnlessAbortHeard,
         Mistake::PickAtTheChild,
         Mistake::TurnedDownStillRuns,
@@ -288,6 +336,30 @@ impl Mistake {
         Mistake::VersionInTheLowestByte,
         Mistake::VersionOneHigher,
         Mistake::SimulationSeesAllRows,
+        Mistake::FullJournalFindsStepFirst,
+        Mistake::FullJournalForgets,
+        Mistake::RefusedKeepWrites,
+        Mistake::RefusedStepIsKept,
+        Mistake::ChangedAlwaysOne,
+        Mistake::EventKeptWithItsSite,
+        Mistake::MessageKeptAsEvent,
+        Mistake::KeepClearsTheRest,
+        Mistake::KeepAnswersNumberAlone,
+        Mistake::RepeatUndoClears,
+        Mistake::MessageUndoAtTheEvent,
+        Mistake::PickUndoAtTheChild,
+        Mistake::UndoOnlyIfOne,
+        Mistake::UndoTogglesTheBit,
+        Mistake::UndoClearsTheByte,
+        Mistake::UndoNeedsTheBit,
+        Mistake::UndoOfAnything,
+        Mistake::UndoTrustsRepeats,
+        Mistake::UndoTakesTheNextPlace,
+        Mistake::UndoRewritesTheEntry,
+        Mistake::UndoAnswersTheSite,
+        Mistake::NoStepBeforeLength,
+        Mistake::RefusedUndoCounts,
+        Mistake::CountAboveIsCut,
         Mistake::HearRefusesRepeats,
         Mistake::OneLevelMore,
         Mistake::ParentsBeforeKinds,
@@ -520,6 +592,47 @@ impl Broken {
         }
     }
 
+    /// A step that isn't kept: refused by itself, or for want of a place.
+    fn not_kept(&self, step: Step, simulated: u32, entries: &mut [Entry], count: &mut usize) -> u32 {
+        let has_place = *count < entries.len();
+        let by_itself = number(simulated) > 7;
+        match self.mistake {
+            Mistake::FullJournalFindsStepFirst if by_itself => return simulated,
+            Mistake::RefusedKeepWrites if by_itself && has_place => {
+                entries[*count] = entry_of(self.mistake, step, simulated, false);
+            }
+            Mistake::RefusedStepIsKept if by_itself && has_place => *count += 1,
+            _ => {}
+        }
+        if has_place || matches!(number(simulated), 1..=7) { simulated } else { 7 }
+    }
+
+    /// A take-back of a valid plan, with a state of the right length, of an
+    /// entry that there is.
+    fn take_back(&self, plan: &[u8], state: &mut [u8], entry: Entry) -> u32 {
+        let entry = misread_entry(self.mistake, plan, entry);
+        let before = state.to_vec();
+        let result = Reference.undo(plan, state, &mut [entry], &mut 1);
+        let [code, node, _, changed] = entry;
+        let is_read = result == 0 || (result == 9 && self.mistake == Mistake::UndoOfAnything);
+        if !is_read || changed == 0 {
+            return result;
+        }
+        let place = place_of_entry(plan, entry);
+        let was_set = before[place] & bit(code.into()) != 0;
+        match self.mistake {
+            Mistake::UndoTogglesTheBit => state[place] = before[place] ^ bit(code.into()),
+            Mistake::UndoClearsTheByte => state[place] = 0,
+            Mistake::UndoNeedsTheBit if !was_set => return 12,
+            Mistake::UndoOfAnything => state[place] &= !bit(code.into()),
+            Mistake::UndoAnswersTheSite => {
+                return Tree::new(plan).site(code.into(), node.into()) as u32 * 256;
+            }
+            _ => {}
+        }
+        0
+    }
+
     /// A message of a valid plan, with a state of the right length, that the
     /// reference answered with this result.
     fn message(&self, plan: &[u8], step: [u32; 3], state: &mut [u8], result: u32) -> u32 {
@@ -540,6 +653,41 @@ impl Broken {
             _ => result,
         }
     }
+}
+
+/// The entry of a step that passed with this result.
+fn entry_of(mistake: Mistake, step: Step, result: u32, changed: bool) -> Entry {
+    let site = match mistake {
+        Mistake::EventKeptWithItsSite if step.site == HAPPENS => site(result),
+        Mistake::MessageKeptAsEvent => HAPPENS,
+        _ => step.site,
+    };
+    let changed = changed || mistake == Mistake::ChangedAlwaysOne;
+    [step.code as u8, step.node as u8, site as u8, u8::from(changed)]
+}
+
+/// What the mistake makes of the last entry before it is taken back.
+fn misread_entry(mistake: Mistake, plan: &[u8], entry: Entry) -> Entry {
+    let [code, node, site, changed] = entry;
+    let is_heard = usize::from(site) < plan.len() / 2;
+    let is_pick = u32::from(code) == PICK && u32::from(site) == HAPPENS;
+    match mistake {
+        Mistake::RepeatUndoClears => [code, node, site, 1],
+        Mistake::MessageUndoAtTheEvent if is_heard => [code, node, HAPPENS as u8, changed],
+        Mistake::PickUndoAtTheChild if is_pick => [code, node, node, changed],
+        Mistake::UndoOnlyIfOne => [code, node, site, u8::from(changed == 1)],
+        Mistake::UndoTrustsRepeats if changed == 0 => [START as u8, 0, HAPPENS as u8, 0],
+        _ => entry,
+    }
+}
+
+/// Where in the state the bit of an entry stands that is taken back.
+fn place_of_entry(plan: &[u8], [code, node, site, _]: Entry) -> usize {
+    let row = match u32::from(site) {
+        HAPPENS => Tree::new(plan).site(code.into(), node.into()),
+        hearer => hearer as usize,
+    };
+    row * (plan.len() / 2) + usize::from(node)
 }
 
 /// Reads the written guard against a row.
@@ -728,6 +876,66 @@ impl Implementation for Broken {
         let root_starts = number(result) == 0 && code == START && node == 0;
         if root_starts && self.mistake == Mistake::AllEndedAtTheRootsStart {
             (0..nodes).for_each(|node| state[node * nodes + node] |= bit(COMMIT));
+        }
+        result
+    }
+
+    fn keep(
+        &mut self,
+        plan: &[u8],
+        step: Step,
+        state: &mut [u8],
+        entries: &mut [Entry],
+        count: &mut usize,
+    ) -> u32 {
+        let mut after = state.to_vec();
+        let result = self.simulate(plan, step.code, step.node, step.site, &mut after);
+        let has_place = *count < entries.len();
+        let forgets = self.mistake == Mistake::FullJournalForgets && !has_place;
+        if number(result) != 0 || !(has_place || forgets) {
+            return self.not_kept(step, result, entries, count);
+        }
+        let changed = after != state;
+        state.copy_from_slice(&after);
+        if forgets {
+            return result;
+        }
+        entries[*count] = entry_of(self.mistake, step, result, changed);
+        *count += 1;
+        match self.mistake {
+            Mistake::KeepClearsTheRest => entries[*count..].fill([0; 4]),
+            Mistake::KeepAnswersNumberAlone => return 0,
+            _ => {}
+        }
+        result
+    }
+
+    fn undo(&mut self, plan: &[u8], state: &mut [u8], entries: &mut [Entry], count: &mut usize) -> u32 {
+        let checked = self.check(plan);
+        let nodes = plan.len() / 2;
+        let seen = match self.mistake {
+            Mistake::CountAboveIsCut => (*count).min(entries.len()),
+            Mistake::UndoTakesTheNextPlace if (1..entries.len()).contains(count) => *count + 1,
+            _ => *count,
+        };
+        let no_step_first = self.mistake == Mistake::NoStepBeforeLength && *count == 0;
+        if checked != 0 {
+            return checked;
+        }
+        if (state.len() != nodes * nodes && !no_step_first) || seen > entries.len() {
+            return 7;
+        }
+        if seen == 0 {
+            return 16;
+        }
+        let result = self.take_back(plan, state, entries[seen - 1]);
+        match (self.mistake, number(result)) {
+            (Mistake::UndoRewritesTheEntry, 0) => entries[seen - 1] = [0; 4],
+            (Mistake::CountAboveIsCut, 0) => *count = seen,
+            _ => {}
+        }
+        if number(result) == 0 || self.mistake == Mistake::RefusedUndoCounts {
+            *count -= 1;
         }
         result
     }

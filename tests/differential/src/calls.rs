@@ -2,8 +2,8 @@
 //! and rows, states, marks and notes that no simulation leads to.
 
 use crate::codes::*;
-use crate::driver::{STRANGE, Tree};
-use crate::implementation::Implementation;
+use crate::driver::{STRANGE, Step, Tree};
+use crate::implementation::{Entry, Implementation};
 use crate::plans;
 use crate::random::Random;
 use crate::tables;
@@ -32,6 +32,9 @@ pub fn damaged_plans<S: Implementation, R: Implementation>(trial: &mut Trial<S, 
         trial.hear(&plan, code, node, &one);
         trial.pass(&plan, &one, &two);
         trial.simulate(&plan, code, node, site, &state);
+        let (entries, count) = any_entries(random, |random| event(random, nodes), nodes);
+        trial.keep(&plan, Step { code, node, site }, &state, &entries, count);
+        trial.undo(&plan, &state, &entries, count);
         trial.record(&plan, &state, &one, &two);
         trial.record_by(&plan, &tables::any(random), &state, &one, &two);
         let three = length(random, nodes);
@@ -198,6 +201,26 @@ pub fn states<S: Implementation, R: Implementation>(
     }
 }
 
+/// Kept steps and take-backs on any state, over any entries, with any count.
+pub fn journals<S: Implementation, R: Implementation>(
+    trial: &mut Trial<S, R>,
+    random: &mut Random,
+    plan: &[u8],
+) {
+    let nodes = plan.len() / 2;
+    let tree = Tree::new(plan);
+    for _ in 0..20 {
+        let state = heard(random, nodes * nodes);
+        for _ in 0..3 {
+            let (entries, count) = any_entries(random, |random| apt_event(random, &tree), nodes);
+            let (code, node) = apt_event(random, &tree);
+            let site = if random.chance(50) { HAPPENS } else { any_node(random, nodes) };
+            trial.keep(plan, Step { code, node, site }, &state, &entries, count);
+            trial.undo(plan, &state, &entries, count);
+        }
+    }
+}
+
 /// Every buffer with a wrong length, alone and together with strange numbers.
 pub fn lengths<S: Implementation, R: Implementation>(
     trial: &mut Trial<S, R>,
@@ -216,6 +239,9 @@ pub fn lengths<S: Implementation, R: Implementation>(
         trial.hear(plan, code, node, &one);
         trial.pass(plan, &one, &two);
         trial.simulate(plan, code, node, site, &state);
+        let (entries, count) = any_entries(random, |random| event(random, nodes), nodes);
+        trial.keep(plan, Step { code, node, site }, &state, &entries, count);
+        trial.undo(plan, &state, &entries, count);
         trial.record(plan, &state, &one, &two);
         trial.record_by(plan, &tables::any(random), &state, &one, &two);
         let three = length(random, nodes);
@@ -252,6 +278,39 @@ fn any_node(random: &mut Random, nodes: usize) -> u32 {
         1 => nodes + 1,
         2 => 256 + random.below(8) as u32,
         _ => random.one_of(&STRANGE),
+    }
+}
+
+/// A few entries of these events, or of anything, and any count.
+fn any_entries(
+    random: &mut Random,
+    mut event: impl FnMut(&mut Random) -> (u32, u32),
+    nodes: usize,
+) -> (Vec<Entry>, usize) {
+    let length = random.one_of(&[0, 1, 2, 3, 9]);
+    let mut entry = |random: &mut Random| {
+        let (code, node) = event(random);
+        let site = if random.chance(50) { HAPPENS } else { any_node(random, nodes) };
+        let changed = random.one_of(&[0, 0, 1, 1, 1, 2, 0x80, 0xff]);
+        [code as u8, node as u8, site as u8, changed]
+    };
+    let entries = (0..length)
+        .map(|_| if random.chance(95) { entry(random) } else { [(); 4].map(|()| random.byte()) })
+        .collect();
+    (entries, any_count(random, length))
+}
+
+/// A count for so many entries; often one that leaves a place.
+fn any_count(random: &mut Random, entries: usize) -> usize {
+    match random.below(10) {
+        0 => 0,
+        1 | 2 => entries,
+        3 => entries + 1,
+        4 => {
+            random.one_of(&[entries + 256, entries | 1 << 32, entries | 1 << 62, usize::MAX - 1, usize::MAX])
+        }
+        5..=7 => entries.saturating_sub(1),
+        _ => random.below(entries + 1),
     }
 }
 

@@ -2,6 +2,7 @@
 //! reference says.
 
 use crate::codes::*;
+use crate::driver::Step;
 use crate::implementation::Implementation;
 use crate::tables::COMMON;
 use crate::trial::{Trial, hex};
@@ -19,12 +20,14 @@ pub fn run<S: Implementation, R: Implementation>(trial: &mut Trial<S, R>) {
     passes(trial);
     sample_text(trial);
     lie(trial);
+    moves(trial);
+    take_backs(trial);
 }
 
-/// Version 1.0.0.
+/// Version 1.1.0.
 fn version<S: Implementation, R: Implementation>(trial: &mut Trial<S, R>) {
     let version = trial.version();
-    trial.tally.compare(version == 0x01_0000, || format!("the version is {version:08x}"));
+    trial.tally.compare(version == 0x01_0100, || format!("the version is {version:08x}"));
 }
 
 /// A guard: the event, its rule, and what must be written.
@@ -119,4 +122,79 @@ fn lie<S: Implementation, R: Implementation>(trial: &mut Trial<S, R>) {
             "a lie: at the sites {at_sites}, rows {rows}, forbidden {forbidden}, simulation {in_simulation}"
         )
     });
+}
+
+/// A move: the step that is kept, or none for a take-back; the result, and
+/// the state and the entries' count after it.
+struct MoveCase(Option<[u32; 3]>, u32, [u8; 4], usize);
+
+/// Someone clicks too soon: a message and its repeat are kept, a step finds no
+/// place, the repeat is taken back and its place used again, and then all is
+/// taken back. The entries stay.
+fn moves<S: Implementation, R: Implementation>(trial: &mut Trial<S, R>) {
+    let plan = [SERIAL, 0xff, TASK, 0];
+    let cases = [
+        MoveCase(None, 16, [0; 4], 0),
+        MoveCase(Some([START, 0, HAPPENS]), 0x01 << 16, [1, 0, 0, 0], 1),
+        MoveCase(Some([START, 0, 1]), 0, [1, 0, 1, 0], 2),
+        MoveCase(Some([START, 0, 1]), 0, [1, 0, 1, 0], 3),
+        MoveCase(Some([START, 1, HAPPENS]), 7, [1, 0, 1, 0], 3),
+        MoveCase(Some([0, 1, HAPPENS]), 7, [1, 0, 1, 0], 3),
+        MoveCase(None, 0, [1, 0, 1, 0], 2),
+        MoveCase(Some([START, 0, HAPPENS]), 10, [1, 0, 1, 0], 2),
+        MoveCase(Some([START, 1, HAPPENS]), 1 << 8 | 0x21 << 16, [1, 0, 1, 1], 3),
+        MoveCase(None, 0, [1, 0, 1, 0], 2),
+        MoveCase(None, 0, [1, 0, 0, 0], 1),
+        MoveCase(None, 0, [0; 4], 0),
+        MoveCase(None, 16, [0; 4], 0),
+        MoveCase(Some([START, 1, HAPPENS]), 11 | 1 << 8, [0; 4], 0),
+    ];
+    let (mut state, mut entries, mut count) = ([0; 4], [[9; 4]; 3], 0);
+    for MoveCase(step, expected, left, counted) in cases {
+        let result = match step {
+            Some([code, node, site]) => {
+                let step = Step { code, node, site };
+                trial.subject.keep(&plan, step, &mut state, &mut entries, &mut count)
+            }
+            None => trial.subject.undo(&plan, &mut state, &mut entries, &mut count),
+        };
+        let right = (result, state, count) == (expected, left, counted);
+        trial.tally.compare(right, || format!("{step:?}: {result:08x}, state {}, {count}", hex(&state)));
+    }
+    let right = entries == [[1, 0, 0xff, 1], [1, 0, 1, 1], [1, 1, 0xff, 1]];
+    trial.tally.compare(right, || format!("the entries of all moves: {entries:02x?}"));
+}
+
+/// A take-back: what is the last entry, the result, and what is left of the
+/// rows of an xor with two children, all of which were full.
+struct UndoCase([u8; 4], u32, [u8; 9]);
+
+/// Entries that no simulation kept.
+fn take_backs<S: Implementation, R: Implementation>(trial: &mut Trial<S, R>) {
+    let plan = [XOR, 0xff, TASK, 0, TASK, 0];
+    let without = |place: usize, code| {
+        let mut state = [0xff; 9];
+        state[place] = !bit(code);
+        state
+    };
+    let cases = [
+        UndoCase([1, 1, 0xff, 2], 0, without(4, START)),
+        UndoCase([7, 1, 0xff, 1], 0, without(1, PICK)),
+        UndoCase([7, 1, 1, 1], 0, without(4, PICK)),
+        UndoCase([3, 0, 2, 0xff], 0, without(6, COMMIT)),
+        UndoCase([3, 0, 2, 0], 0, [0xff; 9]),
+        UndoCase([5, 1, 0xff, 1], 9, [0xff; 9]),
+        UndoCase([5, 1, 3, 0], 8, [0xff; 9]),
+        UndoCase([9, 1, 0xff, 0], 8, [0xff; 9]),
+        UndoCase([1, 3, 0xff, 1], 8, [0xff; 9]),
+    ];
+    for UndoCase(entry, expected, left) in cases {
+        let (mut state, mut entries, mut count) = ([0xff; 9], [[8; 4], entry, [8; 4]], 2);
+        let result = trial.subject.undo(&plan, &mut state, &mut entries, &mut count);
+        let counted = if expected == 0 { 1 } else { 2 };
+        let right = (result, state, count) == (expected, left, counted) && entries == [[8; 4], entry, [8; 4]];
+        trial.tally.compare(right, || {
+            format!("take-back of {entry:02x?}: {result:08x}, state {}, {count}", hex(&state))
+        });
+    }
 }

@@ -115,6 +115,20 @@ impl Driver {
         }
     }
 
+    /// Learns that the last step that passed was taken back: it is to be tried
+    /// again, and nobody is to be told of an event that it was.
+    pub fn forget(&mut self, step: Step) {
+        if step.site != HAPPENS {
+            return self.near.push(step);
+        }
+        let (code, node) = (step.code, step.node);
+        let is_other = |message: &Step| (message.code, message.node) != (code, node);
+        self.near.retain(is_other);
+        self.far.retain(is_other);
+        self.passed.pop();
+        self.list(code, node);
+    }
+
     fn is_idle(&self) -> bool {
         self.likely.is_empty() && self.near.is_empty() && self.far.is_empty()
     }

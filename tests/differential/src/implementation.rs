@@ -1,6 +1,9 @@
 //! What is compared: the functions and the program.
 
+use crate::driver::Step;
 use reference::exported;
+
+pub use reference::journal::Entry;
 
 /// An implementation of the rules, behind the interface of the C archive.
 /// Results are packed in the same way.
@@ -23,6 +26,18 @@ pub trait Implementation {
     fn pass(&mut self, plan: &[u8], answers: &[u8], marks: &mut [u8]) -> u32;
     /// A step of a simulation.
     fn simulate(&mut self, plan: &[u8], code: u32, node: u32, site: u32, state: &mut [u8]) -> u32;
+    /// A step of a simulation that is kept as an entry.
+    fn keep(
+        &mut self,
+        plan: &[u8],
+        step: Step,
+        state: &mut [u8],
+        entries: &mut [Entry],
+        count: &mut usize,
+    ) -> u32;
+    /// Takes the last kept step back. The entries stay; they could be written,
+    /// so that it can be seen that they are not.
+    fn undo(&mut self, plan: &[u8], state: &mut [u8], entries: &mut [Entry], count: &mut usize) -> u32;
     /// The end record.
     fn record(&mut self, plan: &[u8], state: &[u8], marks: &mut [u8], classes: &mut [u8]) -> u32;
     /// The end record by a table of classes that is handed in.
@@ -93,6 +108,21 @@ impl Implementation for Reference {
 
     fn simulate(&mut self, plan: &[u8], code: u32, node: u32, site: u32, state: &mut [u8]) -> u32 {
         exported::simulate(plan, code, node, site, state)
+    }
+
+    fn keep(
+        &mut self,
+        plan: &[u8],
+        step: Step,
+        state: &mut [u8],
+        entries: &mut [Entry],
+        count: &mut usize,
+    ) -> u32 {
+        exported::keep(plan, step.code, step.node, step.site, state, entries, count)
+    }
+
+    fn undo(&mut self, plan: &[u8], state: &mut [u8], entries: &mut [Entry], count: &mut usize) -> u32 {
+        exported::undo(plan, state, entries, count)
     }
 
     fn record(&mut self, plan: &[u8], state: &[u8], marks: &mut [u8], classes: &mut [u8]) -> u32 {

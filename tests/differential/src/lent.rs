@@ -1,6 +1,8 @@
 //! Buffers lent to a call: with canaries around them, and with a twin for the
 //! reference.
 
+use crate::implementation::Entry;
+
 /// How many canary bytes stand on each side.
 const MARGIN: usize = 64;
 
@@ -90,10 +92,16 @@ impl Pair {
     /// Whether both sides hold what was loaded with these bits set in one
     /// byte.
     pub fn has_only_set(&mut self, place: usize, bits: u8) -> bool {
-        let before = self.before[place];
-        self.before[place] |= bits;
+        let byte = self.before[place] | bits;
+        self.has_only(place, [byte])
+    }
+
+    /// Whether both sides hold what was loaded with these bytes at a place.
+    pub fn has_only<const SIZE: usize>(&mut self, place: usize, bytes: [u8; SIZE]) -> bool {
+        let mut other = bytes;
+        self.before[place..][..SIZE].swap_with_slice(&mut other);
         let same = self.is_untouched();
-        self.before[place] = before;
+        self.before[place..][..SIZE].copy_from_slice(&other);
         same
     }
 
@@ -111,6 +119,91 @@ impl Pair {
     /// The bytes before the call.
     pub fn before(&self) -> &[u8] {
         &self.before
+    }
+}
+
+/// A number that both sides change, each its own copy, and what it was before.
+/// The subject's stands between canaries.
+#[derive(Default)]
+pub struct Counter {
+    subject: [usize; 3],
+    /// The reference's.
+    pub reference: usize,
+    before: usize,
+}
+
+/// The canaries around a number.
+const NUMBER_CANARIES: [usize; 2] = [0x0102_0304_c0c1_c2c3, 0xd0d1_d2d3_0504_0706];
+
+impl Counter {
+    /// Gives both sides the same number.
+    pub fn load(&mut self, number: usize) {
+        self.subject = [NUMBER_CANARIES[0], number, NUMBER_CANARIES[1]];
+        self.reference = number;
+        self.before = number;
+    }
+
+    /// The subject's, for writing.
+    pub fn subject_mut(&mut self) -> &mut usize {
+        &mut self.subject[1]
+    }
+
+    /// Whether both sides hold this number, and the subject wrote nothing
+    /// else.
+    pub fn is(&self, number: usize) -> bool {
+        self.reference == number && self.subject == [NUMBER_CANARIES[0], number, NUMBER_CANARIES[1]]
+    }
+
+    /// Takes the number that the reference holds as loaded from now on.
+    pub fn keep(&mut self) {
+        self.before = self.reference;
+    }
+
+    /// The number before the call.
+    pub fn before(&self) -> usize {
+        self.before
+    }
+}
+
+/// A state with its journal, for both sides.
+#[derive(Default)]
+pub struct Journal {
+    /// All rows.
+    pub state: Pair,
+    /// The entries, four bytes each.
+    pub entries: Pair,
+    /// How many of them are kept steps.
+    pub count: Counter,
+}
+
+impl Journal {
+    /// Gives both sides the same.
+    pub fn load(&mut self, state: &[u8], entries: &[Entry], count: usize) {
+        self.state.load(state);
+        self.entries.load(entries.as_flattened());
+        self.count.load(count);
+    }
+
+    /// What the subject is lent.
+    pub fn subject(&mut self) -> (&mut [u8], &mut [Entry], &mut usize) {
+        let entries = self.entries.subject.bytes_mut().as_chunks_mut().0;
+        (self.state.subject.bytes_mut(), entries, self.count.subject_mut())
+    }
+
+    /// What the reference is lent.
+    pub fn reference(&mut self) -> (&mut [u8], &mut [Entry], &mut usize) {
+        let entries = self.entries.reference.as_chunks_mut().0;
+        (&mut self.state.reference, entries, &mut self.count.reference)
+    }
+
+    /// Whether both sides hold what was loaded.
+    pub fn is_untouched(&self) -> bool {
+        self.state.is_untouched() && self.entries.is_untouched() && self.count.is(self.count.before)
+    }
+
+    /// The entries before the call.
+    pub fn entries(&self) -> &[Entry] {
+        self.entries.before().as_chunks().0
     }
 }
 
@@ -144,5 +237,31 @@ mod tests {
         pair.subject.bytes_mut()[2] |= 1;
         assert!(!pair.agrees());
         assert!(!pair.has_only_set(1, 1));
+    }
+
+    #[test]
+    fn a_journal_notices_any_other_change() {
+        let mut journal = Journal::default();
+        journal.load(&[0; 4], &[[1, 2, 3, 4], [5, 6, 7, 8]], 1);
+        assert!(journal.is_untouched());
+        *journal.count.subject_mut() = 2;
+        assert!(!journal.is_untouched());
+        journal.count.reference = 2;
+        assert!(journal.count.is(2) && !journal.is_untouched());
+        journal.count.keep();
+        assert!(journal.is_untouched());
+        journal.subject().1[1] = [9; 4];
+        journal.reference().1[1] = [9; 4];
+        assert!(journal.entries.has_only(4, [9; 4]));
+        assert!(!journal.entries.has_only(4, [9, 9, 9, 8]));
+        assert!(!journal.entries.has_only(3, [9; 4]));
+        assert!(!journal.is_untouched());
+        assert_eq!(journal.entries(), [[1, 2, 3, 4], [5, 6, 7, 8]]);
+        for place in [0, 2] {
+            let mut count = Counter::default();
+            count.load(5);
+            count.subject[place] += 1;
+            assert!(!count.is(5));
+        }
     }
 }

@@ -7,7 +7,8 @@
 //!   simulation steps and simulation texts.
 //! * [`trial`] makes one call on both sides and compares all that can be seen.
 //! * [`cases`] has cases with known answers; [`calls`] tries single calls,
-//!   [`job`] whole simulations, [`hosts`] the same with rows apart, [`texts`]
+//!   [`job`] whole simulations, [`hosts`] the same with rows apart,
+//!   [`journals`] lists of steps that are kept and taken back, [`texts`]
 //!   simulations from text, by the call and by the program; [`run`] puts them
 //!   in turn.
 //! * [`broken`] has copies of the reference with one mistake each, to show
@@ -23,6 +24,7 @@ pub mod driver;
 pub mod hosts;
 pub mod implementation;
 pub mod job;
+pub mod journals;
 pub mod lent;
 pub mod plans;
 pub mod program;

@@ -45,6 +45,14 @@ pub fn largest(random: &mut Random) -> Vec<u8> {
     }
 }
 
+/// Makes some of a valid plan's blocks xors, whose children have more events
+/// than others.
+pub fn favour_xor(random: &mut Random, plan: &mut [u8]) {
+    for kind in plan.iter_mut().step_by(2).filter(|kind| !matches!(**kind, TASK | CONDITIONAL)) {
+        *kind = if random.chance(50) { XOR } else { *kind };
+    }
+}
+
 /// One block below another, a task at the end; so many levels.
 fn chain(random: &mut Random, levels: usize) -> Vec<u8> {
     let mut plan = Vec::new();

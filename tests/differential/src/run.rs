@@ -6,7 +6,7 @@ use crate::plans;
 use crate::random::Random;
 use crate::tally::Tally;
 use crate::trial::Trial;
-use crate::{calls, cases, hosts, job, texts};
+use crate::{calls, cases, hosts, job, journals, texts};
 
 /// Texts in one part of a run.
 const TEXTS_IN_A_PART: usize = 64;
@@ -18,6 +18,8 @@ pub const ONLY_CHILD_PART: u64 = 1 << 39;
 pub const CASES_PART: u64 = ONLY_CHILD_PART + 1;
 /// The first of the parts with hosts; every 32nd is one.
 pub const HOSTS_PART: u64 = 23;
+/// The first of the parts with lists of moves; every 32nd is one.
+pub const JOURNALS_PART: u64 = 25;
 /// Where the parts with texts begin to be numbered.
 const FIRST_TEXT_PART: u64 = 1 << 40;
 
@@ -97,10 +99,12 @@ fn run_part<S: Implementation, R: Implementation>(trial: &mut Trial<S, R>, seed:
         22 => calls::rewrites(trial, random, &plan),
         23 => all_hosts(trial, random),
         24 => texts::calls(trial, random, TEXTS_CALLED),
+        25 => all_journals(trial, random),
+        26 => calls::journals(trial, random, &plan),
         7 => job::simulate(trial, random, &plan),
         8 | 9 => jobs(trial, random, 20, 60, 1),
         10..=15 => jobs(trial, random, 8, 20, 1),
-        _ => jobs(trial, random, 1, 8, 4),
+        _ => jobs(trial, random, 1, 8, 6),
     }
 }
 
@@ -124,6 +128,20 @@ fn all_hosts<S: Implementation, R: Implementation>(trial: &mut Trial<S, R>, rand
     for most in [4, 8, 8, 24] {
         let plan = plans::up_to(random, most);
         hosts::run(trial, random, &plan);
+    }
+}
+
+/// Lists of moves, of small, middle and sometimes large plans.
+fn all_journals<S: Implementation, R: Implementation>(trial: &mut Trial<S, R>, random: &mut Random) {
+    for (least, most, moves) in [(1, 3, 60), (3, 6, 250), (4, 8, 250), (4, 8, 250), (9, 24, 300)] {
+        let nodes = random.between(least, most);
+        let mut plan = plans::of_size(random, nodes);
+        plans::favour_xor(random, &mut plan);
+        journals::run(trial, random, &plan, moves);
+    }
+    if random.chance(20) {
+        let plan = large_plan(random);
+        journals::run(trial, random, &plan, 60);
     }
 }
 

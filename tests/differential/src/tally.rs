@@ -26,6 +26,10 @@ pub enum Function {
     Pass,
     /// `vulcedar_simulate`
     Simulate,
+    /// `vulcedar_keep`
+    Keep,
+    /// `vulcedar_undo`
+    Undo,
     /// `vulcedar_record`
     Record,
     /// `vulcedar_record_by`
@@ -46,7 +50,7 @@ pub enum Function {
 }
 
 /// How many functions there are.
-const FUNCTIONS: usize = 17;
+const FUNCTIONS: usize = 19;
 /// One more than the highest number; 0 is passed.
 const NUMBERS: usize = 22;
 
@@ -62,6 +66,8 @@ impl Function {
         Function::Hear,
         Function::Pass,
         Function::Simulate,
+        Function::Keep,
+        Function::Undo,
         Function::Record,
         Function::RecordBy,
         Function::CheckTable,
@@ -84,6 +90,8 @@ impl Function {
             Function::Hear => "hear",
             Function::Pass => "pass",
             Function::Simulate => "simulate",
+            Function::Keep => "keep",
+            Function::Undo => "undo",
             Function::Record => "record",
             Function::RecordBy => "record_by",
             Function::CheckTable => "check_table",
@@ -104,7 +112,8 @@ impl Function {
             Function::Rule => &[0, 1, 2, 3, 4, 5, 6, 8, 9],
             Function::Step => &[0, 1, 2, 3, 4, 5, 6, 7, 8, 9, 10, 11],
             Function::Pass => &[0, 1, 2, 3, 4, 5, 6, 7, 13, 14],
-            Function::Simulate => &[0, 1, 2, 3, 4, 5, 6, 7, 8, 9, 10, 11, 12],
+            Function::Simulate | Function::Keep => &[0, 1, 2, 3, 4, 5, 6, 7, 8, 9, 10, 11, 12],
+            Function::Undo => &[0, 1, 2, 3, 4, 5, 6, 7, 8, 9, 16],
             Function::Rewrite | Function::Record | Function::CheckDepths => &[0, 1, 2, 3, 4, 5, 6, 7],
             Function::RecordBy => &[0, 1, 2, 3, 4, 5, 6, 7, 21],
             Function::CheckTable => &[0, 21],
@@ -137,6 +146,14 @@ pub struct Jobs {
     pub agreeing: u64,
     /// Steps of hosts, compared with the simulation's.
     pub of_hosts: u64,
+    /// Steps that were kept in lists of moves.
+    pub kept: u64,
+    /// Of these, repeats.
+    pub repeats: u64,
+    /// Of those kept, taken back again.
+    pub taken_back: u64,
+    /// Steps of such lists that a full journal had no place for.
+    pub without_place: u64,
 }
 
 /// A count for each rule byte.
@@ -261,6 +278,11 @@ impl fmt::Display for Tally {
             jobs.events, jobs.messages, jobs.agreeing
         )?;
         writeln!(out, "             {} steps of hosts with rows of their own", jobs.of_hosts)?;
+        writeln!(
+            out,
+            "journals: {} steps kept ({} repeats), {} taken back; {} had no place",
+            jobs.kept, jobs.repeats, jobs.taken_back, jobs.without_place
+        )?;
         writeln!(out, "rules of passed events: {} different", self.rules())?;
         writeln!(out, "texts: {}", self.texts)?;
         write!(out, "simulate and step calls: {}", self.steps())

@@ -2,10 +2,10 @@
 //! canaries around them, and what the rules say about bytes that stay: a
 //! refused call leaves all, a passed step sets one bit.
 
-use crate::codes::{AND, HAPPENS, PICK, TASK, WAITING_AND, number, site, value};
-use crate::driver::Tree;
-use crate::implementation::Implementation;
-use crate::lent::{Lent, Pair};
+use crate::codes::{AND, HAPPENS, PICK, TASK, WAITING_AND, bit, number, site, value};
+use crate::driver::{Step, Tree};
+use crate::implementation::{Entry, Implementation};
+use crate::lent::{Journal, Lent, Pair};
 use crate::tables;
 use crate::tally::{Function, Tally};
 
@@ -22,6 +22,9 @@ pub struct Trial<S, R> {
     table: Lent,
     one: Pair,
     two: Pair,
+    journal: Journal,
+    /// What the subject's simulation leaves where a step is kept.
+    beside: Vec<u8>,
 }
 
 /// A call's numbers, for describing it.
@@ -44,6 +47,8 @@ impl<S: Implementation, R: Implementation> Trial<S, R> {
             table: Lent::default(),
             one: Pair::default(),
             two: Pair::default(),
+            journal: Journal::default(),
+            beside: vec![],
         }
     }
 
@@ -305,11 +310,109 @@ impl<S: Implementation, R: Implementation> Trial<S, R> {
         let place = place_in_state(plan, code, node, site);
         let has_rule = self.has_its_rule(plan, code, node, site, theirs);
         let same = is_bit_set(state, ours, code, place) && has_rule;
-        let short = &state.before()[..state.length().min(400)];
-        let call = Call { function: Function::Simulate, plan, numbers: &[code, node, site], lent: &[short] };
+        let lent = &[short_bytes(state.before())];
+        let call = Call { function: Function::Simulate, plan, numbers: &[code, node, site], lent };
         let fine = self.judge(call, ours, theirs, same);
         keep_bit(state, ours, place);
         (ours, fine)
+    }
+
+    /// A kept step on a state and a journal of its own.
+    pub fn keep(&mut self, plan: &[u8], step: Step, state: &[u8], entries: &[Entry], count: usize) -> u32 {
+        let mut journal = std::mem::take(&mut self.journal);
+        journal.load(state, entries, count);
+        let (ours, _) = self.keep_on(plan, step, &mut journal);
+        self.journal = journal;
+        ours
+    }
+
+    /// A kept step on a state and a journal that go on; answers also whether
+    /// both sides came to the same.
+    pub fn keep_on(&mut self, plan: &[u8], step: Step, journal: &mut Journal) -> (u32, bool) {
+        let Step { code, node, site } = step;
+        self.plan.load(plan);
+        let expected = self.simulate_beside(plan, step, journal);
+        let (state, entries, count) = journal.subject();
+        let theirs = self.subject.keep(self.plan.bytes(), step, state, entries, count);
+        let (state, entries, count) = journal.reference();
+        let ours = self.reference.keep(plan, step, state, entries, count);
+        let passed = number(ours) == 0;
+        let right = if passed { has_kept(plan, step, journal) } else { journal.is_untouched() };
+        let as_beside = theirs == expected && (!passed || journal.state.subject.bytes() == self.beside);
+        let count = journal.count.before();
+        let numbers = &[code, node, site, short_number(count)];
+        let lent = &[short_bytes(journal.state.before()), short_bytes(journal.entries.before())];
+        let call = Call { function: Function::Keep, plan, numbers, lent };
+        let fine = self.judge(call, ours, theirs, right && as_beside);
+        if fine && passed {
+            journal.state.keep(place_in_state(plan, code, node, site));
+            (4 * count..4 * count + 4).for_each(|place| journal.entries.keep(place));
+            journal.count.keep();
+        }
+        (ours, fine)
+    }
+
+    /// What the subject must answer where it keeps a step: as its own
+    /// simulation does; but without a place for the entry only numbers up to 7
+    /// come before the one for that.
+    fn simulate_beside(&mut self, plan: &[u8], step: Step, journal: &Journal) -> u32 {
+        self.beside.clear();
+        self.beside.extend(journal.state.before());
+        let result = self.subject.simulate(plan, step.code, step.node, step.site, &mut self.beside);
+        let has_place = journal.count.before() < journal.entries().len();
+        if has_place || (1..=7).contains(&number(result)) { result } else { 7 }
+    }
+
+    /// A take-back on a state and a journal of its own.
+    pub fn undo(&mut self, plan: &[u8], state: &[u8], entries: &[Entry], count: usize) -> u32 {
+        let mut journal = std::mem::take(&mut self.journal);
+        journal.load(state, entries, count);
+        let (ours, _) = self.undo_on(plan, &mut journal);
+        self.journal = journal;
+        ours
+    }
+
+    /// A take-back on a state and a journal that go on; answers also whether
+    /// both sides came to the same.
+    pub fn undo_on(&mut self, plan: &[u8], journal: &mut Journal) -> (u32, bool) {
+        self.plan.load(plan);
+        let expected = self.number_of_undo(plan, journal);
+        let (state, entries, count) = journal.subject();
+        let theirs = self.subject.undo(self.plan.bytes(), state, entries, count);
+        let (state, entries, count) = journal.reference();
+        let ours = self.reference.undo(plan, state, entries, count);
+        let passed = number(ours) == 0;
+        let right = if passed { has_undone(plan, journal) } else { journal.is_untouched() };
+        let numbers = &[short_number(journal.count.before())];
+        let lent = &[short_bytes(journal.state.before()), short_bytes(journal.entries.before())];
+        let call = Call { function: Function::Undo, plan, numbers, lent };
+        let fine = self.judge(call, ours, theirs, right && theirs == expected);
+        if fine
+            && passed
+            && let Some(&[code, node, site, _]) = last_entry(journal)
+        {
+            journal.state.keep(place_in_state(plan, code.into(), node.into(), site.into()));
+            journal.count.keep();
+        }
+        (ours, fine)
+    }
+
+    /// What the subject must answer to a take-back: by its own check, by the
+    /// lengths, and for the last entry by its own question for a rule.
+    fn number_of_undo(&mut self, plan: &[u8], journal: &Journal) -> u32 {
+        let nodes = plan.len() / 2;
+        let checked = self.subject.check(plan);
+        if checked != 0 {
+            return checked;
+        }
+        if journal.state.length() != nodes * nodes || journal.count.before() > journal.entries().len() {
+            return 7;
+        }
+        match last_entry(journal) {
+            None => 16,
+            Some(&[_, _, site, _]) if u32::from(site) != HAPPENS && usize::from(site) >= nodes => 8,
+            Some(&[code, node, _, _]) => number(self.subject.rule(plan, code.into(), node.into())).into(),
+        }
     }
 
     /// Checks a table. The subject must say the same of it where it takes one
@@ -444,6 +547,16 @@ pub fn hex(bytes: &[u8]) -> String {
     bytes.iter().map(|byte| format!("{byte:02x}")).collect()
 }
 
+/// As many bytes as are shown where a call is described.
+fn short_bytes(bytes: &[u8]) -> &[u8] {
+    &bytes[..bytes.len().min(400)]
+}
+
+/// A number as it is shown there.
+fn short_number(number: usize) -> u32 {
+    u32::try_from(number).unwrap_or(u32::MAX)
+}
+
 /// The plan with every and a waiting one.
 fn and_waiting(plan: &[u8]) -> Vec<u8> {
     let kind_or_parent = |(place, &byte): (usize, &u8)| {
@@ -476,4 +589,41 @@ fn keep_bit(pair: &mut Pair, result: u32, place: usize) {
     if number(result) == 0 {
         pair.keep(place);
     }
+}
+
+/// The last of the steps kept before the call, if there is one.
+fn last_entry(journal: &Journal) -> Option<&Entry> {
+    journal.entries().get(journal.count.before().checked_sub(1)?)
+}
+
+/// Whether a kept step set its bit, its entry stands at the place that the
+/// count had, the count is one more, and nothing else changed.
+fn has_kept(plan: &[u8], step: Step, journal: &mut Journal) -> bool {
+    let Step { code, node, site } = step;
+    let count = journal.count.before();
+    let place = place_in_state(plan, code, node, site);
+    if count >= journal.entries().len() || place >= journal.state.length() {
+        return false;
+    }
+    let changed = u8::from(journal.state.before()[place] & bit(code) == 0);
+    let entry = [code as u8, node as u8, site as u8, changed];
+    journal.state.has_only_set(place, bit(code))
+        && journal.entries.has_only(4 * count, entry)
+        && journal.count.is(count + 1)
+}
+
+/// Whether a take-back cleared just the bit of the last entry, or nothing if
+/// that says so, and the count is one less.
+fn has_undone(plan: &[u8], journal: &mut Journal) -> bool {
+    let Some(&[code, node, site, changed]) = last_entry(journal) else {
+        return false;
+    };
+    let place = place_in_state(plan, code.into(), node.into(), site.into());
+    let Some(&before) = journal.state.before().get(place) else {
+        return false;
+    };
+    let after = if changed == 0 { before } else { before & !bit(code.into()) };
+    journal.state.has_only(place, [after])
+        && journal.entries.is_untouched()
+        && journal.count.is(journal.count.before() - 1)
 }

@@ -3,7 +3,7 @@
 
 use differential::Reference;
 use differential::broken::{Broken, Mistake};
-use differential::run::{CASES_PART, HOSTS_PART, ONLY_CHILD_PART, Options, run, run_against};
+use differential::run::{CASES_PART, HOSTS_PART, JOURNALS_PART, ONLY_CHILD_PART, Options, run, run_against};
 
 #[test]
 fn two_copies_of_the_reference_agree() {
@@ -15,6 +15,8 @@ fn two_copies_of_the_reference_agree() {
     assert_eq!(tally.rules(), 37);
     assert!(tally.jobs.over > 500 && tally.jobs.committed > 100 && tally.jobs.failed > 100);
     assert!(tally.jobs.of_hosts > 10_000, "{}", tally.jobs.of_hosts);
+    assert!(tally.jobs.kept > 2000 && tally.jobs.repeats > 200, "{}", tally.jobs.kept);
+    assert!(tally.jobs.taken_back > 1000 && tally.jobs.without_place > 300, "{}", tally.jobs.taken_back);
 }
 
 #[test]
@@ -87,6 +89,30 @@ fn a_mistake_on_both_sides_is_found() {
         Mistake::RehearseClearsTheRest,
         Mistake::RehearseLengthLeftOut,
         Mistake::SimulationSeesAllRows,
+        Mistake::FullJournalFindsStepFirst,
+        Mistake::FullJournalForgets,
+        Mistake::RefusedKeepWrites,
+        Mistake::RefusedStepIsKept,
+        Mistake::ChangedAlwaysOne,
+        Mistake::EventKeptWithItsSite,
+        Mistake::MessageKeptAsEvent,
+        Mistake::KeepClearsTheRest,
+        Mistake::KeepAnswersNumberAlone,
+        Mistake::RepeatUndoClears,
+        Mistake::MessageUndoAtTheEvent,
+        Mistake::PickUndoAtTheChild,
+        Mistake::UndoOnlyIfOne,
+        Mistake::UndoTogglesTheBit,
+        Mistake::UndoClearsTheByte,
+        Mistake::UndoNeedsTheBit,
+        Mistake::UndoOfAnything,
+        Mistake::UndoTrustsRepeats,
+        Mistake::UndoTakesTheNextPlace,
+        Mistake::UndoRewritesTheEntry,
+        Mistake::UndoAnswersTheSite,
+        Mistake::NoStepBeforeLength,
+        Mistake::RefusedUndoCounts,
+        Mistake::CountAboveIsCut,
         Mistake::HearRefusesRepeats,
     ];
     let options = Options { seed: 15, steps: 1_000_000, texts: 0, enough: 1, only: None };
@@ -103,7 +129,7 @@ fn a_mistake_on_both_sides_is_found() {
 fn cases_have_their_answers() {
     let options = Options { only: Some(CASES_PART), ..Options::default() };
     let tally = run(Reference, options);
-    assert_eq!((tally.comparisons(), tally.differences()), (18, 0), "{:#?}", tally.described());
+    assert_eq!((tally.comparisons(), tally.differences()), (42, 0), "{:#?}", tally.described());
     let mistakes = [
         Mistake::VersionInTheLowestByte,
         Mistake::VersionOneHigher,
@@ -120,10 +146,55 @@ fn cases_have_their_answers() {
         Mistake::RehearseClearsTheRest,
         Mistake::FalseMessageBelieved,
         Mistake::SetsNothing,
+        Mistake::FullJournalFindsStepFirst,
+        Mistake::FullJournalForgets,
+        Mistake::RefusedKeepWrites,
+        Mistake::RefusedStepIsKept,
+        Mistake::ChangedAlwaysOne,
+        Mistake::EventKeptWithItsSite,
+        Mistake::RepeatUndoClears,
+        Mistake::MessageUndoAtTheEvent,
+        Mistake::PickUndoAtTheChild,
+        Mistake::UndoOnlyIfOne,
+        Mistake::UndoRewritesTheEntry,
+        Mistake::RefusedUndoCounts,
     ];
     for mistake in mistakes {
         let tally = run_against(Broken::new(mistake), Broken::new(mistake), options);
         assert_ne!(tally.differences(), 0, "{mistake:?} on both sides is not found");
+    }
+}
+
+/// Lists of moves alone find what is wrong with a step that is kept or taken
+/// back from a fresh start, even if both sides do it.
+#[test]
+fn moves_are_held_against_what_remains() {
+    let parts = || (0..10).map(|place| JOURNALS_PART + 32 * place);
+    let only = |part| Options { seed: 17, only: Some(part), ..Options::default() };
+    for part in parts() {
+        let tally = run(Reference, only(part));
+        assert_eq!(tally.differences(), 0, "{:#?}", tally.described());
+        assert!(tally.jobs.kept > 0);
+    }
+    let mistakes = [
+        Mistake::FullJournalForgets,
+        Mistake::RefusedKeepWrites,
+        Mistake::RefusedStepIsKept,
+        Mistake::ChangedAlwaysOne,
+        Mistake::EventKeptWithItsSite,
+        Mistake::MessageKeptAsEvent,
+        Mistake::KeepClearsTheRest,
+        Mistake::RepeatUndoClears,
+        Mistake::MessageUndoAtTheEvent,
+        Mistake::PickUndoAtTheChild,
+        Mistake::UndoClearsTheByte,
+        Mistake::UndoTakesTheNextPlace,
+        Mistake::UndoRewritesTheEntry,
+    ];
+    for mistake in mistakes {
+        let found =
+            |part| run_against(Broken::new(mistake), Broken::new(mistake), only(part)).differences() > 0;
+        assert!(parts().any(found), "{mistake:?} on both sides is not found");
     }
 }
 

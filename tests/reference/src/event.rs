@@ -94,6 +94,11 @@ impl Event {
     pub fn set(self, row: &mut [u8]) {
         row[self.node] |= self.code.bit();
     }
+
+    /// Forgets it in a row, whether or not it was heard.
+    pub fn clear(self, row: &mut [u8]) {
+        row[self.node] &= !self.code.bit();
+    }
 }
 
 /// A node or site number from outside, if the plan has it.

@@ -7,11 +7,13 @@
 //! They are never inlined, so that a caller pays for a call here as well.
 
 use crate::guard::Written;
+use crate::journal::Entry;
+use crate::record as records;
 use crate::refusal::Refusal;
 use crate::simulate::Outcome;
 use crate::site::Verdict;
 use crate::table::Table;
-use crate::{central as central_rule, guard as guards, pass as passes, plan, record as records};
+use crate::{central as central_rule, guard as guards, journal as journals, pass as passes, plan};
 use crate::{rewrite as rewriting, rule as rules, simulate as simulation, site as sites, text as texts};
 
 /// The number in a packed result.
@@ -89,6 +91,27 @@ pub fn simulate(plan: &[u8], code: u32, node: u32, site: u32, state: &mut [u8]) 
     outcome(simulation::simulate(plan, code, node, site, state))
 }
 
+/// A step of a simulation that is kept as an entry, at the place that the
+/// count has. Answers as `simulate` does. 1 to 12.
+#[inline(never)]
+pub fn keep(
+    plan: &[u8],
+    code: u32,
+    node: u32,
+    site: u32,
+    state: &mut [u8],
+    entries: &mut [Entry],
+    count: &mut usize,
+) -> u32 {
+    outcome(journals::keep(plan, code, node, site, state, entries, count))
+}
+
+/// Takes the last kept step back. 1 to 7, 16, 8, 9.
+#[inline(never)]
+pub fn undo(plan: &[u8], state: &mut [u8], entries: &[Entry], count: &mut usize) -> u32 {
+    done(journals::undo(plan, state, entries, count))
+}
+
 /// The end record of a simulation's state, by the common table. 1 to 7.
 #[inline(never)]
 pub fn record(plan: &[u8], state: &[u8], marks: &mut [u8], classes: &mut [u8]) -> u32 {
@@ -125,10 +148,10 @@ pub fn rehearse(text: &[u8], out: &mut [u8]) -> u32 {
     }
 }
 
-/// The version of these calls, a byte each for its three numbers: 1.0.0.
+/// The version of these calls, a byte each for its three numbers: 1.1.0.
 #[inline(never)]
 pub fn version() -> u32 {
-    1 << 16
+    (1 << 16) + (1 << 8)
 }
 
 /// The central rule; the value is 1 if the event was allowed. 1 to 9.

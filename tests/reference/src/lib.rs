@@ -21,6 +21,7 @@ pub mod central;
 pub mod event;
 pub mod exported;
 pub mod guard;
+pub mod journal;
 pub mod mark;
 pub mod pass;
 pub mod plan;

@@ -35,6 +35,8 @@ pub enum Refusal {
     Choice = 14,
     /// The text is malformed or too long.
     Text = 15,
+    /// There is no step to take back.
+    NoStep = 16,
     /// A table of classes that isn't one.
     Table = 21,
 }

@@ -37,6 +37,7 @@ fn exported_functions_do_not_allocate() {
     let plan = hex(P);
     let answers = [0, 1, 1, 1, 1, 1];
     let (mut marks, mut notes, mut state, mut buffer) = ([0; 6], [0; 6], [0; 36], [0; 300]);
+    let (mut kept, mut entries, mut count) = ([0; 36], [[0; 4]; 9], 0);
     let before = COUNT.get();
     let mut sum = exported::check(&plan) + exported::rewrite(&plan, &mut buffer[..12]);
     sum += exported::check_depths(&plan, &mut marks);
@@ -48,6 +49,9 @@ fn exported_functions_do_not_allocate() {
             sum += exported::hear(&plan, code, node, &mut marks);
             sum += exported::simulate(&plan, code, node, HAPPENS, &mut state);
             sum += exported::simulate(&plan, code, node, 1, &mut state);
+            sum += exported::keep(&plan, code, node, HAPPENS, &mut kept, &mut entries, &mut count);
+            sum += exported::keep(&plan, code, node, 1, &mut kept, &mut entries, &mut count);
+            sum += exported::undo(&plan, &mut kept, &entries, &mut count);
             sum += exported::central(&plan, code, node, &mut marks, &mut notes);
         }
     }

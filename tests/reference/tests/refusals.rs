@@ -73,6 +73,8 @@ fn plan_refusals_come_first_everywhere() {
                 assert_eq!(simulate(&plan, code, node, HAPPENS, &mut lent), expected);
                 assert_eq!(simulate(&plan, code, node, 0, &mut lent), expected);
                 assert_eq!(simulate(&plan, code, node, 400, &mut lent), expected);
+                assert_eq!(keep(&plan, code, node, 0, &mut lent, &mut [], &mut 1), expected);
+                assert_eq!(undo(&plan, &mut lent, &[], &mut 0), expected);
                 assert_eq!(pass(&plan, &[1], &mut lent), expected);
                 assert_eq!(record(&plan, &[1], &mut lent, &mut other), expected);
                 assert_eq!(record_by(&plan, &COMMON_TABLE, &[1], &mut lent, &mut other), expected);

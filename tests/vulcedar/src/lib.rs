@@ -6,6 +6,8 @@
 
 mod raw;
 
+pub use raw::Entry;
+
 /// Checks a plan.
 pub fn check(plan: &[u8]) -> u32 {
     // SAFETY: pointer and length are those of a slice that outlives the call.
@@ -71,6 +73,50 @@ pub fn simulate(plan: &[u8], code: u32, node: u32, site: u32, state: &mut [u8]) 
     // SAFETY: as for `rewrite`.
     unsafe {
         raw::vulcedar_simulate(plan.as_ptr(), plan.len(), code, node, site, state.as_mut_ptr(), state.len())
+    }
+}
+
+/// A step of a simulation, kept as an entry at the place that the count has.
+/// Answers as `simulate` does.
+pub fn keep(
+    plan: &[u8],
+    code: u32,
+    node: u32,
+    site: u32,
+    state: &mut [u8],
+    entries: &mut [Entry],
+    count: &mut usize,
+) -> u32 {
+    // SAFETY: as for `rewrite`; the count is lent for writing alone too.
+    unsafe {
+        raw::vulcedar_keep(
+            plan.as_ptr(),
+            plan.len(),
+            code,
+            node,
+            site,
+            state.as_mut_ptr(),
+            state.len(),
+            entries.as_mut_ptr(),
+            entries.len(),
+            count,
+        )
+    }
+}
+
+/// Takes the last kept step back.
+pub fn undo(plan: &[u8], state: &mut [u8], entries: &[Entry], count: &mut usize) -> u32 {
+    // SAFETY: as for `keep`.
+    unsafe {
+        raw::vulcedar_undo(
+            plan.as_ptr(),
+            plan.len(),
+            state.as_mut_ptr(),
+            state.len(),
+            entries.as_ptr(),
+            entries.len(),
+            count,
+        )
     }
 }
 

@@ -1,5 +1,8 @@
 //! The archive's functions as C declares them (include/vulcedar.h).
 
+/// `vulcedar_entry`: its four bytes code, node, site and changed, in this order.
+pub type Entry = [u8; 4];
+
 unsafe extern "C" {
     pub fn vulcedar_check(plan: *const u8, plan_length: usize) -> u32;
 
@@ -58,6 +61,29 @@ unsafe extern "C" {
         site: u32,
         state: *mut u8,
         state_length: usize,
+    ) -> u32;
+
+    pub fn vulcedar_keep(
+        plan: *const u8,
+        plan_length: usize,
+        code: u32,
+        node: u32,
+        site: u32,
+        state: *mut u8,
+        state_length: usize,
+        entries: *mut Entry,
+        entries_length: usize,
+        count: *mut usize,
+    ) -> u32;
+
+    pub fn vulcedar_undo(
+        plan: *const u8,
+        plan_length: usize,
+        state: *mut u8,
+        state_length: usize,
+        entries: *const Entry,
+        entries_length: usize,
+        count: *mut usize,
     ) -> u32;
 
     pub fn vulcedar_record(

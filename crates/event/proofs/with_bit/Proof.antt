@@ -31,11 +31,13 @@ shl-result : tie.Need-shl-result
 shl-result c = search needs
 
 add-result : tie.Need-add-result
-add-result c = let s = c .before .before .before .before in record { fits = rw (shift-weight (s .args .b) (s .args .code) (s .fits .b .fits) (c .before .if2 .left) (c .if3 .left) (unset (c .before .before))) (with-fits _ _ (s .fits .b .fits) (c .before .if2 .left) (c .if3 .left) (unset (c .before .before))) }
+add-result c = let s = c .before .before .before .before in
+    record { fits = rw (shift-weight (s .args .b) (s .args .code) (s .fits .b .fits) (c .before .if2 .left) (c .if3 .left)) (with-fits _ _ (s .fits .b .fits) (c .before .if2 .left) (c .if3 .left) (unset (c .before .before))) }
 
 returns-4 : tie.Need-returns-4
 unfolding withBit isCode
-returns-4 c = let s = c .before .before .before .before in rw (unset (c .before .before), le-leb _ _ (c .before .if2 .left), le-leb _ _ (c .if3 .left)) (rw (shift-weight (s .args .b) (s .args .code) (s .fits .b .fits) (c .before .if2 .left) (c .if3 .left) (unset (c .before .before))))
+returns-4 c = let s = c .before .before .before .before in
+    rw (unset (c .before .before), le-leb _ _ (c .before .if2 .left), le-leb _ _ (c .if3 .left)) (rw (shift-weight (s .args .b) (s .args .code) (s .fits .b .fits) (c .before .if2 .left) (c .if3 .left)))
 
 pub with-bit-spec : {M : Type 1} → statement M
 with-bit-spec =

@@ -1,6 +1,6 @@
 -- By the product of a small n, else by the quotient and the remainder. Assumes nothing.
 use native.Mathlib.Omega.{arith}
-use Rattle.simulation.proofs.CodeLaws.{square-small, square-not, square-is}
+use Rattle.simulation.proofs.SquareLaws.{square-small, square-not, square-is}
 use borrow.Author.Needs.{needs}
 use Rattle.simulation.proofs.is_square.Statement.{statement}
 use Rattle.simulation.proofs.is_square.Tie as tie

@@ -2,9 +2,7 @@
 use mathlib.Core.Path.{_≡_, sym, _∙_}
 use Rattle.retention.specs.Record.{tableNumber}
 use Rattle.simulation.specs.Run.{recordNumber}
-use Rattle.simulation.proofs.RecordLaws.{record-told, table-refused, record-refused, record-lengths, record-done}
-use Prim.Native.Nat.{ℕ, _*_, _≤_}
-use lib.ListN.{length}
+use Rattle.simulation.proofs.RecordLaws.{record-told, table-refused, record-refused, record-long, record-laid, record-done}
 use borrow.Author.Needs.{needs}
 use Rattle.simulation.proofs.record_by.Statement.{statement}
 use Rattle.simulation.proofs.record_by.Tie as tie
@@ -22,12 +20,6 @@ module _ (c : tie.Else2) where
 
   none : recordNumber (s .args .plan .now) (s .args .state .now) (s .args .marks .now) (s .args .classes .now) ≡ 0
   none = sym (told (c .before)) ∙ c .if2 .left
-
-  abbrev n : ℕ
-  n = c .before .before .before .node-count .result
-
-  lengths : (n ≤ 160) × (length (s .args .state .now) ≡ n * n) × (length (s .args .marks .now) ≡ n) × (length (s .args .classes .now) ≡ n)
-  lengths = record-lengths (s .args .plan .now) (s .args .state .now) (s .args .marks .now) (s .args .classes .now) none n (c .before .before .before .node-count .ensures)
 
 check-table-requires : tie.Need-check-table-requires
 check-table-requires c κs = search needs
@@ -48,7 +40,7 @@ returns-2 : tie.Need-returns-2
 returns-2 c = record-refused _ _ _ _ _ (right (c .before .before .before .before)) _ (told (c .before)) (c .if2 .taken)
 
 write-marks-requires : tie.Need-write-marks-requires
-write-marks-requires c κs = let l = lengths (c .before) in (l .0, l .1, l .2)
+write-marks-requires c κs = let z = none (c .before) in (record-laid _ _ _ _ z, record-long _ _ _ _ z .1)
 
 classify-requires : tie.Need-classify-requires
 classify-requires c κs = search needs
@@ -62,7 +54,7 @@ same-length-2 c = search needs
 returns-3 : tie.Need-returns-3
 returns-3 c =
     let d = c .before .before .before .before .before .before .before .before .before in
-    record-done _ _ _ _ (none d) _ (right (d .before .before .before .before)) _ (d .before .before .before .node-count .ensures) _ _ (c .before .before .before .before .before .before .before .write-marks .ensures) (c .before .before .classify .ensures)
+    record-done _ _ _ _ (none d) _ (right (d .before .before .before .before)) _ _ (c .before .before .before .before .before .before .before .write-marks .ensures) (c .before .before .classify .ensures)
 
 pub record-by-spec : {M : Type 1} → statement M
 record-by-spec =

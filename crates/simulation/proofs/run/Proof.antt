@@ -2,7 +2,7 @@
 use mathlib.Core.Path.{_≡_, sym, _∙_}
 use Rattle.simulation.specs.Run.{runNumber}
 use Rattle.simulation.proofs.RunLaws.{run-refused, run-done}
-use Rattle.simulation.proofs.RecordLaws.{run-told, run-long}
+use Rattle.simulation.proofs.RecordLaws.{run-told, run-laid, run-long}
 use borrow.Author.Needs.{needs}
 use Rattle.simulation.proofs.run.Statement.{statement}
 use Rattle.simulation.proofs.run.Tie as tie
@@ -28,7 +28,7 @@ returns : tie.Need-returns
 returns c = run-refused _ _ _ _ _ (told (c .before)) (c .if1 .taken)
 
 run-all-requires : tie.Need-run-all-requires
-run-all-requires c κs = run-long _ _ _ _ (none (c .before .before))
+run-all-requires c κs = let z = none (c .before .before) in (run-laid _ _ _ _ z, run-long _ _ _ _ z)
 
 same-length : tie.Need-same-length
 same-length c = search needs

@@ -4,6 +4,7 @@ use native.Mathlib.Omega.{arith}
 use borrow.Author.Needs.{needs}
 use Prim.Native.Nat.{_-_, _/_}
 use lib.ListN.{length}
+use Rattle.simulation.proofs.OwnLaws.{laid-kept}
 use Rattle.simulation.proofs.RunLaws.{Running, run-none, run-turn, run-state, run-numbers}
 use Rattle.simulation.proofs.run_all.Statement.{statement}
 use Rattle.simulation.proofs.run_all.Tie as tie
@@ -15,7 +16,7 @@ abbrev μ-loop : tie.MeasureT-loop
 μ-loop plan steps state₀ numbers₀ i₀ state numbers i = length steps / 3 - i
 
 loop-holds : tie.Need-loop-holds Inv-loop μ-loop
-loop-holds c = run-none _ _ _ _ (c .before .before .before .before .pre)
+loop-holds c = run-none _ _ _ _ (c .before .before .before .before .pre .1)
 
 mul-f : tie.Need-mul-f Inv-loop μ-loop
 mul-f c = omega (arith, c .before .loop .inv .long)
@@ -44,8 +45,8 @@ shared-slice-read-wide32-3 c = omega (arith, c .before .before .before .before .
 wide32-requires-3 : tie.Need-wide32-requires-3 Inv-loop μ-loop
 wide32-requires-3 c κs = search needs
 
-simulate-requires : tie.Need-simulate-requires Inv-loop μ-loop
-simulate-requires c κs = search needs
+advance-requires : tie.Need-advance-requires Inv-loop μ-loop
+advance-requires c κs = laid-kept _ _ _ _ (c .before .before .before .before .before .before .before .before .before .before .before .before .before .pre .0) (c .before .before .before .before .before .before .before .before .loop .inv .kept)
 
 report-of-requires : tie.Need-report-of-requires Inv-loop μ-loop
 report-of-requires c κs = search needs
@@ -61,14 +62,14 @@ loop-less c = omega (arith, c .before .before .before .before .before .before .b
 
 loop-again : tie.Need-loop-again Inv-loop μ-loop
 loop-again c = let s = c .before .before .before in let t = s .before .before .before .before .before .before .before .before .before in
-    run-turn _ _ _ _ _ _ (t .loop .inv) (omega (arith, t .loop .inv .long)) _ _ _ (s .before .before .before .before .before .before .wide32 .ensures) (s .before .before .before .before .wide322 .ensures) (s .before .before .wide323 .ensures) _ _ (s .simulate .ensures)
+    run-turn _ _ _ _ _ _ (t .loop .inv) (omega (arith, t .loop .inv .long)) _ _ _ (s .before .before .before .before .before .before .wide32 .ensures) (s .before .before .before .before .wide322 .ensures) (s .before .before .wide323 .ensures) _ _ (s .advance .ensures)
     _ (ap (λ r. r .number) (c .report-of .ensures)) (search needs)
 
 same-length : tie.Need-same-length Inv-loop μ-loop
 same-length c = c .before .loop .inv .kept
 
 same-length-2 : tie.Need-same-length-2 Inv-loop μ-loop
-same-length-2 c = c .before .loop .inv .long ∙ sym (c .before .before .before .before .before .before .pre)
+same-length-2 c = c .before .loop .inv .long ∙ sym (c .before .before .before .before .before .before .pre .1)
 
 returns : tie.Need-returns Inv-loop μ-loop
 returns c = (run-state _ _ _ _ _ _ (c .before .loop .inv) (omega (arith, c .before .loop .inv .long)), run-numbers _ _ _ _ _ _ (c .before .loop .inv) (omega (arith, c .before .loop .inv .long)))
@@ -89,7 +90,7 @@ run-all-spec =
     add-wide32-2
     shared-slice-read-wide32-3
     wide32-requires-3
-    simulate-requires
+    advance-requires
     report-of-requires
     slice-write-numbers
     add-i

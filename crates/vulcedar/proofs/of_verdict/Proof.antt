@@ -1,5 +1,5 @@
 -- The verdict's report, packed. Assumes nothing.
-use mathlib.Core.Path.{sym, ap, _∙_}
+use mathlib.Core.Path.{ap, _∙_}
 use Rattle.vulcedar.specs.Result.{ofReport}
 use borrow.Author.Needs.{needs}
 use Rattle.vulcedar.proofs.of_verdict.Statement.{statement}

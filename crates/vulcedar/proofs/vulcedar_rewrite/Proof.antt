@@ -1,5 +1,5 @@
 -- The parts of the contract's one value. Assumes nothing.
-use mathlib.Core.Path.{_≡_, sym, ap, _∙_}
+use mathlib.Core.Path.{sym, ap, _∙_}
 use Rattle.vulcedar.specs.Result.{result}
 use borrow.Author.Needs.{needs}
 use Rattle.vulcedar.proofs.vulcedar_rewrite.Statement.{statement}
