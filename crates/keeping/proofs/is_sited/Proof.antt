@@ -1,4 +1,4 @@
--- Assumed of no plan: by the number alone. Assumes nothing.
+-- By the number alone, for any plan. Assumes nothing.
 use borrow.Author.Tests.{ne-eqb}
 use Rattle.layout.specs.Layout.{layoutBy}
 use Rattle.journal.specs.Journal.{sited}
