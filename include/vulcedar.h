@@ -1,5 +1,5 @@
 /*
- * Vulcedar 1.1.0: jobs that follow a plan, decided by the sites that do the work.
+ * Vulcedar 1.2.0: jobs that follow a plan, decided by the sites that do the work.
  *
  * A plan is a tree of tasks and blocks. Every node has a site; a site keeps one row of bytes, what it has heard, and
  * decides the events of its node from that row alone. This header is all that a host needs; docs/GUIDE.md shows how a
@@ -20,12 +20,20 @@
  *
  * JOURNALS. A list of entries (vulcedar_entry) and a count, both lent by the host: the first entries, as many as the count
  * says, are the steps of a simulation that were kept and not taken back, oldest first. A fresh journal has count 0 and
- * entries of any bytes, and goes with a state of zeros. While nothing but vulcedar_keep and vulcedar_undo, with one plan,
- * writes state, entries and count, the state is the one that the steps in the journal give from zeros by vulcedar_simulate,
- * and each of them passes there. A step on a full journal is refused with 7: lend a longer list with the same entries in
+ * entries of any bytes, and goes with a state of zeros. While nothing but vulcedar_keep, vulcedar_undo and the calls with
+ * points, with one plan, writes state, entries and count, the state is the one that the steps in the journal give from zeros
+ * by vulcedar_simulate, and each of them passes there. A step on a full journal is refused with 7: lend a longer list with the same entries in
  * front, and call again; nothing else changes. The entries are the host's to store and to send, four bytes each.
- * vulcedar_undo believes them: it cannot know whether a simulation kept an entry. So keep the steps of a journal that comes
+ * Taking back believes them: it cannot know whether a simulation kept an entry. So keep the steps of a journal that comes
  * from elsewhere anew, from a state of zeros.
+ *
+ * POINTS. Names for places in a journal, to go back to: sixteen slots (VULCEDAR_POINTS_MOST), each with a name of
+ * VULCEDAR_NAME_LENGTH bytes, which may be any, and a place. The host lends them as two lists, names and places; the struct
+ * vulcedar_points has both, and zeros are no points. In places, 0 is a free slot, and n + 1 a point behind the first n steps.
+ * The calls with points refuse with 7 other lengths than 128 bytes and 16 places, a point above the count, and two points of
+ * one name. While nothing but vulcedar_keep, vulcedar_point_name, vulcedar_point_undo and vulcedar_point_back writes what is
+ * lent, there is no such point. vulcedar_undo knows no points and leaves those that it passes above the count: in a journal
+ * with points, take back with vulcedar_point_undo.
  *
  * RECORDS. Every node's mark (enum vulcedar_mark) and class (enum vulcedar_class, how long its work is kept). A block has
  * no class. A task's class is what a table has for the mark as which the task counts: its own mark, unless it committed;
@@ -50,7 +58,7 @@
  *
  * CALLING. No call allocates anything or remembers an earlier one; each may be called from any thread. Buffers of one call
  * must not overlap, and nobody else may write them during the call. A length says how many bytes behind the pointer are
- * there, entries_len how many entries; with length 0 nothing is read or written, and the pointer may be null. count points
+ * there, entries_len how many entries, places_len how many places; with length 0 nothing is read or written, and the pointer may be null. count points
  * to a buffer too, of one number, and is never null. A call takes at most VULCEDAR_STACK_MOST bytes of stack,
  * vulcedar_rehearse at most VULCEDAR_REHEARSE_STACK_MOST (measured for the largest plans and texts).
  *
@@ -69,7 +77,7 @@ extern "C" {
 
 /* The version of this header. vulcedar_version() is that of the library that is linked. */
 #define VULCEDAR_VERSION_MAJOR 1
-#define VULCEDAR_VERSION_MINOR 1
+#define VULCEDAR_VERSION_MINOR 2
 #define VULCEDAR_VERSION_PATCH 0
 #define VULCEDAR_VERSION (65536u * VULCEDAR_VERSION_MAJOR + 256u * VULCEDAR_VERSION_MINOR + VULCEDAR_VERSION_PATCH)
 
@@ -119,16 +127,18 @@ enum vulcedar_number {
     VULCEDAR_TASK_PARENT = 4,      /* a task has a child */
     VULCEDAR_BAD_CHILDREN = 5,     /* a block has too few or too many children */
     VULCEDAR_TOO_DEEP = 6,         /* a node lies deeper than 32 */
-    VULCEDAR_BAD_BUFFER = 7,       /* a buffer has not the length that the call says, or a journal is full */
+    VULCEDAR_BAD_BUFFER = 7,       /* a buffer has not the length that the call says, a journal is full, or points are not right */
     VULCEDAR_NOT_IN_PLAN = 8,      /* there is no such code, or the plan has no such node or site */
     VULCEDAR_NOT_APPLICABLE = 9,   /* the node has no such event */
-    VULCEDAR_BARRED = 10,          /* it happened already, or something that rules it out did; this will not change, unless by vulcedar_undo */
+    VULCEDAR_BARRED = 10,          /* it happened already, or something that rules it out did; this will not change, unless a step is taken back */
     VULCEDAR_UNMET = 11,           /* the site has not heard all that the event waits for; this may change */
     VULCEDAR_NOT_HAPPENED = 12,    /* simulation: the message tells of something that did not happen */
     VULCEDAR_BAD_ANSWER = 13,      /* pass: a task or a conditional that it comes to has another answer than 1 and 2 */
     VULCEDAR_BAD_PICK = 14,        /* pass: an xor's answer names no child that offers though one does, or names one though none does */
     VULCEDAR_BAD_TEXT = 15,        /* the text of a simulation is not one */
     VULCEDAR_NOTHING_TO_UNDO = 16, /* the journal has no step left to take back */
+    VULCEDAR_UNKNOWN_POINT = 19,   /* no point has this name */
+    VULCEDAR_NO_FREE_POINT = 20,   /* sixteen other points are in use */
     VULCEDAR_BAD_TABLE = 21        /* the table of classes is not one; found before the plan's own numbers */
 };
 
@@ -155,6 +165,8 @@ enum vulcedar_number {
 #define VULCEDAR_DEPTH_MOST 32u
 #define VULCEDAR_GUARD_MOST 290u
 #define VULCEDAR_TABLE_LENGTH 12u
+#define VULCEDAR_POINTS_MOST 16u
+#define VULCEDAR_NAME_LENGTH 8u
 #define VULCEDAR_STACK_MOST 8192u
 #define VULCEDAR_REHEARSE_STACK_MOST 65536u
 
@@ -253,6 +265,41 @@ uint32_t vulcedar_keep(const uint8_t *plan, size_t plan_len, uint32_t code, uint
  */
 uint32_t vulcedar_undo(const uint8_t *plan, size_t plan_len, uint8_t *state, size_t state_len, const vulcedar_entry *entries,
                        size_t entries_len, size_t *count);
+
+/* Points, for a host to hold: names and places are lent apart. Zeros are no points. */
+typedef struct vulcedar_points {
+    uint8_t names[VULCEDAR_POINTS_MOST * VULCEDAR_NAME_LENGTH];
+    uint64_t places[VULCEDAR_POINTS_MOST]; /* 0: the slot is free; n + 1: a point behind the first n steps */
+} vulcedar_points;
+
+/*
+ * Names the current place of a journal, that behind its count steps. A point that has the name moves there, in its slot;
+ * otherwise the first free slot gets the name and the place. Other slots are left. It needs no plan and serves every
+ * journal. The result is the number alone: 7 if a length is not right (name_len is VULCEDAR_NAME_LENGTH), if a point is above
+ * count or two have one name, or if count is 2^64 - 1; 20 if sixteen other points are in use.
+ */
+uint32_t vulcedar_point_name(const uint8_t *name, size_t name_len, size_t count, uint8_t *names, size_t names_len,
+                             uint64_t *places, size_t places_len);
+
+/*
+ * Takes back the last step of a journal, as vulcedar_undo does, and drops the points that are above the new count: their
+ * slots are free, name and place zeros. A point exactly at the new count stays. The result is the number alone: as of
+ * vulcedar_undo, where 7 also says that the points are not right.
+ */
+uint32_t vulcedar_point_undo(const uint8_t *plan, size_t plan_len, uint8_t *state, size_t state_len,
+                             const vulcedar_entry *entries, size_t entries_len, size_t *count, uint8_t *names, size_t names_len,
+                             uint64_t *places, size_t places_len);
+
+/*
+ * Goes back to a point: takes back the last step, and again, until *count is the point's place, and drops the points that
+ * are above it. The point itself stays. If it is at *count already, nothing is taken back and the call passes. The result
+ * is the number alone: as of vulcedar_point_undo, where 7 also says that name_len is not VULCEDAR_NAME_LENGTH; but not 16;
+ * then 19 if no point has the name; then the first of 8 and 9 that is met in an entry on the way, and then nothing is taken
+ * back at all.
+ */
+uint32_t vulcedar_point_back(const uint8_t *plan, size_t plan_len, const uint8_t *name, size_t name_len, uint8_t *state,
+                             size_t state_len, const vulcedar_entry *entries, size_t entries_len, size_t *count,
+                             uint8_t *names, size_t names_len, uint64_t *places, size_t places_len);
 
 /*
  * The record of a simulation, or of all rows side by side: every node's mark by its own site's row, and its class by the
