@@ -22,10 +22,10 @@
  * says, are the steps of a simulation that were kept and not taken back, oldest first. A fresh journal has count 0 and
  * entries of any bytes, and goes with a state of zeros. While nothing but vulcedar_keep, vulcedar_undo and the calls with
  * points, with one plan, writes state, entries and count, the state is the one that the steps in the journal give from zeros
- * by vulcedar_simulate, and each of them passes there. A step on a full journal is refused with 7: lend a longer list with the same entries in
- * front, and call again; nothing else changes. The entries are the host's to store and to send, four bytes each.
- * Taking back believes them: it cannot know whether a simulation kept an entry. So keep the steps of a journal that comes
- * from elsewhere anew, from a state of zeros.
+ * by vulcedar_simulate, and each of them passes there. A step on a full journal is refused with 7: lend a longer list with
+ * the same entries in front, and call again; nothing else changes. The entries are the host's to store and to send, four
+ * bytes each. Taking back believes them: it cannot know whether a simulation kept an entry. So keep the steps of a journal
+ * that comes from elsewhere anew, from a state of zeros.
  *
  * POINTS. Names for places in a journal, to go back to: sixteen slots (VULCEDAR_POINTS_MOST), each with a name of
  * VULCEDAR_NAME_LENGTH bytes, which may be any, and a place. The host lends them as two lists, names and places; the struct
@@ -58,9 +58,9 @@
  *
  * CALLING. No call allocates anything or remembers an earlier one; each may be called from any thread. Buffers of one call
  * must not overlap, and nobody else may write them during the call. A length says how many bytes behind the pointer are
- * there, entries_len how many entries, places_len how many places; with length 0 nothing is read or written, and the pointer may be null. count points
- * to a buffer too, of one number, and is never null. A call takes at most VULCEDAR_STACK_MOST bytes of stack,
- * vulcedar_rehearse at most VULCEDAR_REHEARSE_STACK_MOST (measured for the largest plans and texts).
+ * there, entries_len how many entries, places_len how many places; with length 0 nothing is read or written, and the
+ * pointer may be null. count points to a buffer too, of one number, and is never null, but in vulcedar_point_name it is
+ * handed over. A call takes at most VULCEDAR_STACK_MOST bytes of stack, vulcedar_rehearse at most VULCEDAR_REHEARSE_STACK_MOST (measured for the largest plans and texts).
  *
  * MACHINES. The library is compiled for x86-64 Linux with glibc (any x86-64 processor; position independent code). Of the
  * C library it needs memcpy and memset.
