@@ -59,8 +59,9 @@
  * CALLING. No call allocates anything or remembers an earlier one; each may be called from any thread. Buffers of one call
  * must not overlap, and nobody else may write them during the call. A length says how many bytes behind the pointer are
  * there, entries_len how many entries, places_len how many places; with length 0 nothing is read or written, and the
- * pointer may be null. count points to a buffer too, of one number, and is never null, but in vulcedar_point_name it is
- * handed over. A call takes at most VULCEDAR_STACK_MOST bytes of stack, vulcedar_rehearse at most VULCEDAR_REHEARSE_STACK_MOST (measured for the largest plans and texts).
+ * pointer may be null. Where count is a pointer it is a buffer too, of one number, and never null. A call takes at most
+ * VULCEDAR_STACK_MOST bytes of stack, vulcedar_rehearse at most VULCEDAR_REHEARSE_STACK_MOST (measured for the largest plans
+ * and texts).
  *
  * MACHINES. The library is compiled for x86-64 Linux with glibc (any x86-64 processor; position independent code). Of the
  * C library it needs memcpy and memset.
