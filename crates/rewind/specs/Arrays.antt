@@ -1,4 +1,4 @@
--- Entries as arrays of four bytes, the same memory as the struct. Definitions only.
+-- Entries as arrays of four bytes, which in C are the same memory as the struct. Definitions only.
 use mathlib.Core.List.{List, map}
 use Prim.Native.Nat.{ℕ}
 use lib.ListN.{getD}
@@ -8,5 +8,5 @@ use Rattle.journal.specs.declared.Entry.{Entry}
 abbrev pub entryIn : List ℕ → Entry
 entryIn b = record { code = getD b 0 0; node = getD b 1 0; site = getD b 2 0; changed = getD b 3 0 }
 
-abbrev pub entriesOf : List (List ℕ) → List Entry
+unfoldable pub entriesOf : List (List ℕ) → List Entry
 entriesOf bs = map entryIn bs

@@ -3,14 +3,13 @@ use mathlib.Core.Path.{_≡_, refl, sym, _∙_}
 use mathlib.Core.List.{List}
 use Prim.Native.Nat.{ℕ, _-_, _≤_}
 use native.Mathlib.Omega.{arith}
-use lib.ListN.{length}
 use Rattle.layout.specs.Layout.{via, layoutBy}
-use Rattle.points.specs.Arrays.{entriesOf}
-use Rattle.points.specs.Return.{firstFault}
-use Rattle.points.proofs.BackLaws.{fault-met, fault-on, fault-end}
+use Rattle.rewind.specs.Arrays.{entriesOf}
+use Rattle.rewind.specs.Rewound.{firstFault}
+use Rattle.rewind.proofs.BackLaws.{fault-met, fault-on, fault-end}
 use borrow.Author.Needs.{needs}
-use Rattle.points.proofs.first_fault.Statement.{statement}
-use Rattle.points.proofs.first_fault.Tie as tie
+use Rattle.rewind.proofs.first_fault.Statement.{statement}
+use Rattle.rewind.proofs.first_fault.Tie as tie
 
 abbrev Inv-loop : tie.InvT-loop
 Inv-loop plan row rows entries place count i₀ i = (place ≤ i) × (i ≤ count)
@@ -20,34 +19,29 @@ abbrev μ-loop : tie.MeasureT-loop
 μ-loop plan row rows entries place count i₀ i = i - place
 
 loop-holds : tie.Need-loop-holds Inv-loop μ-loop
-loop-holds c = (omega (arith, c .before .before .pre), omega arith, λ home. refl)
+loop-holds c = (c .before .before .pre .1, omega arith, λ home. refl)
 
 sub-i : tie.Need-sub-i Inv-loop μ-loop
 sub-i c = omega (arith, c .loop-test .taken)
 
-mul-entry-in : tie.Need-mul-entry-in Inv-loop μ-loop
-mul-entry-in c = search needs
-
-shared-slice-copy-out-entry-in : tie.Need-shared-slice-copy-out-entry-in Inv-loop μ-loop
-shared-slice-copy-out-entry-in c = ?
-
-entry-in-requires : tie.Need-entry-in-requires Inv-loop μ-loop
-entry-in-requires c κs = search needs
+entry-at-requires : tie.Need-entry-at-requires Inv-loop μ-loop
+entry-at-requires c κs = search needs
 
 entry-fault-requires : tie.Need-entry-fault-requires Inv-loop μ-loop
-entry-fault-requires c κs = ?
+entry-fault-requires c κs = c .before .before .before .before .before .pre .0
 
 returns : tie.Need-returns Inv-loop μ-loop
-returns c = ?
+returns c = λ home. fault-met _ _ _ _ _ _ (c .before .before .before .loop-test .taken) _ (c .before .before .entry-at .ensures) _ (c .before .entry-fault .ensures home) (c .if1 .taken) ∙ c .before .before .before .before .loop .inv .2 home
 
 loop-less : tie.Need-loop-less Inv-loop μ-loop
 loop-less c = search needs
 
 loop-again : tie.Need-loop-again Inv-loop μ-loop
-loop-again c = ?
+loop-again c = let t = c .before .before .before .loop-test .taken in
+    (omega (arith, t), omega (arith, c .before .before .before .before .loop .inv .1), λ home. fault-on _ _ _ _ _ _ t _ (c .before .before .entry-at .ensures) (sym (c .before .entry-fault .ensures home) ∙ c .if1 .left) ∙ c .before .before .before .before .loop .inv .2 home)
 
 returns-2 : tie.Need-returns-2 Inv-loop μ-loop
-returns-2 c = ?
+returns-2 c = λ home. sym (fault-end _ _ _ _ _ _ (c .loop-test .left)) ∙ c .before .loop .inv .2 home
 
 pub first-fault-spec : {M : Type 1} → statement M
 first-fault-spec =
@@ -57,9 +51,7 @@ first-fault-spec =
     μ-loop
     loop-holds
     sub-i
-    mul-entry-in
-    shared-slice-copy-out-entry-in
-    entry-in-requires
+    entry-at-requires
     entry-fault-requires
     returns
     loop-less

@@ -1,0 +1,102 @@
+-- The name's slot, a look at the entries down to its place, and only then the clearing. Assumes nothing.
+use mathlib.Core.Path.{_≡_, refl, sym, _∙_}
+use Prim.Native.Nat.{_≤_, _<_}
+use native.Mathlib.Omega.{arith}
+use lib.ListN.{length}
+use Rattle.points.specs.Points.{placeAt}
+use Rattle.points.proofs.NamingLaws.{fit-long}
+use Rattle.rewind.specs.Arrays.{entriesOf}
+use Rattle.rewind.proofs.ArrayLaws.{array-length}
+use Rattle.rewind.proofs.CallLaws.{back-unknown, word-some, place-within, back-refused, back-done}
+use borrow.Author.Needs.{needs}
+use Rattle.rewind.proofs.point_back_on.Statement.{statement}
+use Rattle.rewind.proofs.point_back_on.Tie as tie
+
+-- the count is in the entries
+within : (c : tie.Start) → c .args .count .now ≤ length (entriesOf (c .args .entries .now))
+within c = rw (array-length (c .args .entries .now)) (c .pre .1 .1)
+
+-- a slot was found
+found : (c : tie.Else1) → c .before .slot-of .result < 16
+found c = omega (arith, c .if1 .left, c .before .slot-of .ensures .1)
+
+-- its point is at a place in the journal
+near : (c : tie.Else1) → let a = c .before .before .before .before .before .before .before .before .before .before .before .args in placeAt (a .places .now) (c .before .slot-of .result) ≤ a .count .now
+near c = let s = c .before .before .before .before .before .before .before .before .before .before .before in place-within _ _ _ (s .pre .1 .2) _ _ (c .before .slot-of .ensures .0) (found c)
+
+slot-of-requires : tie.Need-slot-of-requires
+slot-of-requires c κs = let s = c .before .before .before .before .before .before .before .before .before in let l = fit-long _ _ _ (s .pre .1 .2) in (l .0, l .1, s .pre .1 .0)
+
+same-length : tie.Need-same-length
+same-length c = search needs
+
+same-length-2 : tie.Need-same-length-2
+same-length-2 c = search needs
+
+returns : tie.Need-returns
+returns c = let s = c .before .before .before .before .before .before .before .before .before .before .before in
+    back-unknown _ _ _ _ (s .pre .0) _ _ (within s) _ _ (s .pre .1 .2) _ (s .pre .1 .0) _ (c .before .slot-of .ensures .0) (omega (arith, c .if1 .taken))
+
+mul-place : tie.Need-mul-place
+mul-place c = search needs
+
+slice-read-place : tie.Need-slice-read-place
+slice-read-place c = omega (arith, found (c .before), fit-long _ _ _ (c .before .before .before .before .before .before .before .before .before .before .before .before .pre .1 .2) .1)
+
+sub-place : tie.Need-sub-place
+sub-place c = let e = c .before in let s = e .before .before .before .before .before .before .before .before .before .before .before in
+    word-some _ _ _ (s .pre .1 .2) _ _ (e .before .slot-of .ensures .0) (found e)
+
+first-fault-requires : tie.Need-first-fault-requires
+first-fault-requires c κs = let s = c .before .before .before .before .before .before .before .before .before .before .before .before .before in (s .pre .0 .plan .few, near (c .before .before), s .pre .1 .1)
+
+same-length-3 : tie.Need-same-length-3
+same-length-3 c = search needs
+
+same-length-4 : tie.Need-same-length-4
+same-length-4 c = search needs
+
+returns-2 : tie.Need-returns-2
+returns-2 c = let e = c .before .before .before .before in let s = e .before .before .before .before .before .before .before .before .before .before .before in
+    back-refused _ _ _ _ (s .pre .0) _ _ (within s) _ _ (s .pre .1 .2) _ (s .pre .1 .0) _ (e .before .slot-of .ensures .0) (found e) _ refl _ (c .before .first-fault .ensures _) (c .if2 .taken)
+
+rewind-requires : tie.Need-rewind-requires
+rewind-requires c κs = let s = c .before .before .before .before .before .before .before .before .before .before .before .before .before .before .before .before in (s .pre .0, ((near (c .before .before .before .before .before), s .pre .1 .1), sym (c .before .before .first-fault .ensures _) ∙ c .before .if2 .left))
+
+drop-past-requires : tie.Need-drop-past-requires
+drop-past-requires c κs = fit-long _ _ _ (c .before .before .before .before .before .before .before .before .before .before .before .before .before .before .before .before .before .before .before .before .before .pre .1 .2)
+
+same-length-5 : tie.Need-same-length-5
+same-length-5 c = search needs
+
+same-length-6 : tie.Need-same-length-6
+same-length-6 c = search needs
+
+same-length-7 : tie.Need-same-length-7
+same-length-7 c = search needs
+
+returns-3 : tie.Need-returns-3
+returns-3 c = let e = c .before .before .before .before .before .before .before .before .before .before .before .before .before .before .before in let s = e .before .before .before .before .before .before .before .before .before .before .before in
+    back-done _ _ _ _ (s .pre .0) _ _ (within s) _ _ (s .pre .1 .2) _ (s .pre .1 .0) _ (e .before .slot-of .ensures .0) (found e) _ refl (sym (c .before .before .before .before .before .before .before .before .before .before .before .before .first-fault .ensures _) ∙ c .before .before .before .before .before .before .before .before .before .before .before .if2 .left) _ (c .before .before .before .before .before .before .before .before .before .rewind .ensures) _ _ (c .before .before .before .before .drop-past .ensures)
+
+pub point-back-on-spec : {M : Type 1} → statement M
+point-back-on-spec =
+    tie.close
+    (tie.spec
+    slot-of-requires
+    same-length
+    same-length-2
+    returns
+    mul-place
+    slice-read-place
+    sub-place
+    first-fault-requires
+    same-length-3
+    same-length-4
+    returns-2
+    rewind-requires
+    drop-past-requires
+    same-length-5
+    same-length-6
+    same-length-7
+    returns-3)
