@@ -3,3 +3,11 @@ pub mod SlotLaws
 pub mod PutLaws
 pub mod NamingLaws
 pub mod DropLaws
+pub mod FirstLaws
+pub mod NameLaws
+pub mod RightLaws
+pub mod PlacedLaws
+pub mod EndLaws
+pub mod DroppedLaws
+pub mod Main
+pub mod Cases

@@ -1,0 +1,104 @@
+-- Points that are right (rule M8): the test of points says so, and a name's point is the word of the one slot that has the name. Assumes nothing.
+use mathlib.Core.Path.{_≡_, refl, sym, _∙_, ap}
+use mathlib.Core.Bool.{Bool, true, false, not, _&&_, _||_}
+use mathlib.Core.List.{List}
+use Prim.Native.Nat.{ℕ, suc, _-_, _≤_, _<_}
+use native.Mathlib.Omega.{arith}
+use borrow.Author.Tests.{eq-eqb, ne-eqb, eqb-true, eqb-false, le-ltb, ltb-true, ltb-false, not-true, not-false}
+use lib.Dec.{eqb, ltb}
+use lib.ListN.{length, getD, List·getD-eq-default}
+use Rattle.lists.proofs.Logic.{cases, decided, no-bool, and-left, and-right, and-join, parts}
+use Rattle.lists.proofs.Below.{below-at, below-by}
+use Rattle.points.specs.Points.{nameAt, inUse, placeAt, sameName, hasName, slotOf, isPast, nonePast, namedOnce, pointsFit}
+use Rattle.points.specs.Claim.{pointOf, NamedApart, PointsRight}
+use Rattle.points.proofs.SlotLaws.{once-free, once-own}
+use Rattle.points.proofs.NamingLaws.{fit-long}
+use Rattle.points.proofs.FirstLaws.{slot-has, slot-least, slot-out}
+use Rattle.points.proofs.NameLaws.{same-self, same-back, same-on}
+
+-- a slot is in use if its word is not 0
+pub used-word : (places : List ℕ) (i : ℕ) → inUse places i ≡ true → getD places i 0 ≡ 0 → ⊥
+used-word places i h = eqb-false (getD places i 0) 0 (not-true (eqb (getD places i 0) 0) h)
+
+pub free-word : (places : List ℕ) (i : ℕ) → inUse places i ≡ false → getD places i 0 ≡ 0
+free-word places i h = eqb-true (getD places i 0) 0 (not-false (eqb (getD places i 0) 0) h)
+
+pub word-used : (places : List ℕ) (i : ℕ) → (getD places i 0 ≡ 0 → ⊥) → inUse places i ≡ true
+word-used places i h = rw (ne-eqb (getD places i 0) 0 h)
+
+module _ (names places : List ℕ) where
+  -- a slot's own name is one that it has
+  has-own : (i : ℕ) → inUse places i ≡ true → hasName names places (nameAt names i) i ≡ true
+  has-own i u = and-join (inUse places i) (sameName (nameAt names i) (nameAt names i)) u (same-self (nameAt names i))
+
+  module _ (apart : NamedApart names places) (name : List ℕ) where
+    pub slot-is : (i : ℕ) → i < 16 → hasName names places name i ≡ true → slotOf names places name ≡ i
+    slot-is i l h =
+        let s : ℕ = slotOf names places name in
+        let m : s < 16 = omega (arith, slot-least names places name i l h) in
+        let t : hasName names places name s ≡ true = slot-has names places name m in
+        apart s i m l (and-left (inUse places s) (sameName (nameAt names s) name) t) (and-left (inUse places i) (sameName (nameAt names i) name) h)
+        (same-on (nameAt names s) name (nameAt names i) (and-right (inUse places s) (sameName (nameAt names s) name) t)
+        (same-back (nameAt names i) name (and-right (inUse places i) (sameName (nameAt names i) name) h)))
+
+    pub point-is : (i : ℕ) → i < 16 → hasName names places name i ≡ true → pointOf names places name ≡ getD places i 0
+    unfolding pointOf
+    point-is i l h = rw (slot-is i l h)
+
+  -- each name stands once, in both forms
+  abbrev isOnce : ℕ → Bool
+  isOnce i = not (inUse places i) || eqb (slotOf names places (nameAt names i)) i
+
+  once-own-slot : namedOnce names places ≡ true → (i : ℕ) → i < 16 → inUse places i ≡ true → slotOf names places (nameAt names i) ≡ i
+  unfolding namedOnce
+  once-own-slot h i l u = eqb-true (slotOf names places (nameAt names i)) i (rw u at (below-at isOnce 16 i h l))
+
+  once-apart : namedOnce names places ≡ true → NamedApart names places
+  once-apart h i j l m u v s =
+      let a : hasName names places (nameAt names j) i ≡ true = and-join (inUse places i) (sameName (nameAt names i) (nameAt names j)) u s in
+      let b : hasName names places (nameAt names i) j ≡ true = and-join (inUse places j) (sameName (nameAt names j) (nameAt names i)) v (same-back (nameAt names i) (nameAt names j) s) in
+      omega (arith, once-own-slot h i l u, once-own-slot h j m v, slot-least names places (nameAt names j) i l a, slot-least names places (nameAt names i) j m b)
+
+  apart-once : NamedApart names places → namedOnce names places ≡ true
+  unfolding namedOnce
+  apart-once a = below-by isOnce 16 (λ i l. cases (decided (inUse places i))
+      (λ u. once-own places i (slotOf names places (nameAt names i)) (used-word places i u) (slot-is a (nameAt names i) i l (has-own i u)))
+      (λ u. rw u))
+
+  -- no point is past the count, in both forms
+  module _ (k : ℕ) where
+    abbrev isWithin : ℕ → Bool
+    isWithin i = not (isPast places k i)
+
+    past-within : nonePast places k ≡ true → (i : ℕ) → i < 16 → inUse places i ≡ true → placeAt places i ≤ k
+    unfolding nonePast
+    past-within h i l u = omega (arith, ltb-false (suc k) (getD places i 0) (not-true (isPast places k i) (below-at isWithin 16 i h l)))
+
+    within-past : ((i : ℕ) → i < 16 → inUse places i ≡ true → placeAt places i ≤ k) → nonePast places k ≡ true
+    unfolding nonePast
+    within-past h = below-by isWithin 16 (λ i l. ap not (cases (decided (inUse places i)) (λ u. le-ltb (suc k) (getD places i 0) (omega (arith, h i l u))) (λ u. le-ltb (suc k) (getD places i 0) (omega (arith, free-word places i u)))))
+
+    pub fit-right : pointsFit names places k ≡ true → PointsRight names places k
+    unfolding pointsFit
+    fit-right h = record {
+      names-long = fit-long names places k h .0;
+      places-long = fit-long names places k h .1;
+      within = past-within (search parts);
+      apart = once-apart (search parts);
+    }
+
+    pub right-fit : PointsRight names places k → pointsFit names places k ≡ true
+    unfolding pointsFit
+    right-fit r = and-join _ _ (and-join _ _ (and-join _ _ (eq-eqb (length names) 128 (r .names-long)) (eq-eqb (length places) 16 (r .places-long))) (within-past (r .within))) (apart-once (r .apart))
+
+  -- a name without a slot
+  module _ (name : List ℕ) where
+    pub point-none : length places ≡ 16 → ((i : ℕ) → i < 16 → hasName names places name i ≡ false) → pointOf names places name ≡ 0
+    unfolding pointOf
+    point-none l h = List·getD-eq-default places 0 (omega (arith, slot-out names places name h))
+
+    pub none-slot : pointOf names places name ≡ 0 → 16 ≤ slotOf names places name
+    unfolding pointOf
+    none-slot h = let s : ℕ = slotOf names places name in cases (decided (ltb (slotOf names places name) 16))
+        (λ e. absurd (used-word places s (and-left (inUse places s) (sameName (nameAt names s) name) (slot-has names places name (ltb-true s 16 e))) h))
+        (ltb-false (slotOf names places name) 16)
