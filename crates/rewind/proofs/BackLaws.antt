@@ -81,7 +81,6 @@ module _ (p : List ℕ) (lay : Layout) (row : ℕ → ℕ) (es : List Entry) (pl
     unfolding rewound
     rewound-on st st′ back = rw (steps, back, is)
 
-
   module _ (reached : k ≤ place) where
     none : k - place ≡ 0
     none = omega arith

@@ -55,9 +55,10 @@ module _ (p : List ℕ) (n : ℕ) (count : n ≡ size p) (st : List ℕ) (bs : L
       back-tested z =
           let t = fit-exact p _ .none .0 (sym told ∙ z) in
           let nbl = and-left (eqb (length name) 8 && b && leb k (length bs)) f (t .1) in
-          let nb = and-left (eqb (length name) 8 && b) _ nbl in
-          (tested (t .0) (and-right (eqb (length name) 8) b nb) (and-right (eqb (length name) 8 && b) _ nbl) (and-right (eqb (length name) 8 && b && leb k (length bs)) f (t .1)),
-          eqb-true (length name) 8 (and-left _ b nb))
+          let nb = and-left (eqb (length name) 8 && b) _ nbl in (
+            tested (t .0) (and-right (eqb (length name) 8) b nb) (and-right (eqb (length name) 8 && b) _ nbl) (and-right (eqb (length name) 8 && b && leb k (length bs)) f (t .1)),
+            eqb-true (length name) 8 (and-left _ b nb),
+          )
 
   -- without tables
   module _ (x : Returned) where

@@ -33,13 +33,6 @@ fn entry_at(entries: &[[u8; 4]], at: usize) -> Entry
     }
 }
 
-// The place of the last of so many.
-fn last_place(count: usize) -> usize
-    ensures { λ r. ⌜ r ≡ count - 1 ⌝ }
-{
-    if count == 0 { 0 } else { count - 1 }
-}
-
 // The first number met in the entries below `count`, down to `place`; 0 where there is none.
 fn first_fault(
     plan: &[u8],
@@ -103,7 +96,7 @@ pub fn point_undo_on(
     ensures { λ r. ⌜ pointUndoOf (now (plan .entry)) (layoutBy rows (now (home .entry))) (via (now (row .entry))) (now (state .entry)) (entriesOf (now (entries .entry))) (now (count .entry)) (now (names .entry)) (now (places .entry)) ≡ returned r (now (state .exit)) (now (count .exit)) (points (now (names .exit)) (now (places .exit))) ⌝ }
 {
     let k = *count;
-    let e = entry_at(entries, last_place(k));
+    let e = entry_at(entries, journal::last_place(k));
     let number = keeping::undo_on(plan, home, row, rows, state, entries.len(), count, e);
     if number == 0 {
         points::drop_past(*count, names, places);
@@ -182,9 +175,23 @@ pub fn point_back(
     let n = plan::node_count(plan);
     let square = simulation::is_square(n, state.len());
     let right = points::points_fit(names, places, *count);
-    let number = checker::fit(plan, (name.len() == 8) & square & (*count <= entries.len()) & right);
+    let number = checker::fit(
+        plan,
+        (name.len() == 8) & square & (*count <= entries.len()) & right,
+    );
     if number != 0 {
         return number;
     }
-    point_back_on(plan, &none, &none, n, name, state, entries, count, names, places)
+    point_back_on(
+        plan,
+        &none,
+        &none,
+        n,
+        name,
+        state,
+        entries,
+        count,
+        names,
+        places,
+    )
 }

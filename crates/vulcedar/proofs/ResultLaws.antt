@@ -1,4 +1,4 @@
--- The guard writer's answer, a ruling, a verdict, a text's answer, a kept step and a take-back, as results. Assumes nothing.
+-- The guard writer's answer, a ruling, a verdict, a text's answer, a kept step, a take-back and a naming, as results. Assumes nothing.
 use mathlib.Core.Path.{_≡_, sym, ap, _∙_}
 use mathlib.Core.List.{List}
 use Prim.Native.Nat.{ℕ, _+_, _*_, _≤_}
@@ -19,7 +19,9 @@ use Rattle.script.specs.declared.TextResult.{TextResult}
 use Rattle.job.specs.Simulation.{simulated}
 use Rattle.journal.specs.declared.Entry.{Entry}
 use Rattle.journal.specs.Journal.{Kept, kept, Undone, undone}
-use Rattle.vulcedar.specs.Result.{result, ofWritten, ofVerdict, ofRuling, ofText, AsKept, AsUndone}
+use Rattle.points.specs.Points.{points, Naming, naming}
+use Rattle.rewind.specs.Return.{Returned, returned}
+use Rattle.vulcedar.specs.Result.{result, ofWritten, ofVerdict, ofRuling, ofText, AsKept, AsUndone, AsNamed, AsReturned}
 
 module _ (p : List ℕ) (code node : ℕ) (b b′ : List ℕ) (w : Written) (h : writeOf p code node b ≡ filled b′ w) where
   pub done-short : (g : WrittenGuard) → w ≡ Done g → g .length ≤ 290
@@ -69,4 +71,22 @@ undone-result a n st k h r e = record {
   told = e ∙ sym (ap (λ x. result (x .number) 0 0) h);
   state = sym (ap (λ x. x .state) h);
   count = sym (ap (λ x. x .count) h);
+}
+
+-- a naming's result, and the points beside it
+pub named-result : (a : Naming) (n : ℕ) (ns ps : List ℕ) → a ≡ naming n ns ps → (r : ℕ) → r ≡ result n 0 0 → AsNamed a r ns ps
+named-result a n ns ps h r e = record {
+  told = e ∙ sym (ap (λ x. result (x .number) 0 0) h);
+  names = sym (ap (λ x. x .left .names) h);
+  places = sym (ap (λ x. x .left .places) h);
+}
+
+-- the result of a take-back with points or of a going back, and all that is lent beside it
+pub returned-result : (a : Returned) (n : ℕ) (st : List ℕ) (k : ℕ) (ns ps : List ℕ) → a ≡ returned n st k (points ns ps) → (r : ℕ) → r ≡ result n 0 0 → AsReturned a r st k ns ps
+returned-result a n st k ns ps h r e = record {
+  told = e ∙ sym (ap (λ x. result (x .number) 0 0) h);
+  state = sym (ap (λ x. x .state) h);
+  count = sym (ap (λ x. x .count) h);
+  names = sym (ap (λ x. x .left .names) h);
+  places = sym (ap (λ x. x .left .places) h);
 }

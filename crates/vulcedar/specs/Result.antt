@@ -13,10 +13,12 @@ use Rattle.central.specs.declared.Ruling.{Ruling}
 use Rattle.script.specs.declared.TextResult.{TextResult}
 use Rattle.journal.specs.declared.Entry.{Entry}
 use Rattle.journal.specs.Journal.{Kept, Undone}
+use Rattle.points.specs.Points.{Naming}
+use Rattle.rewind.specs.Return.{Returned}
 
--- K5: 1.1.0, as 65536 times its first number, 256 times its second, and its third
+-- K5: 1.2.0, as 65536 times its first number, 256 times its second, and its third
 unfoldable pub version : ℕ
-version = 65536 * 1 + 256 * 1 + 0
+version = 65536 * 1 + 256 * 2 + 0
 
 -- K1: the number in bits 0 to 7, the event's site in bits 8 to 15, a value in bits 16 to 31
 abbrev pub result : ℕ → ℕ → ℕ → ℕ
@@ -57,3 +59,17 @@ pub record AsUndone (a : Undone) (answer : ℕ) (st : List ℕ) (k : ℕ) : Type
   pub told : answer ≡ result (a .number) 0 0
   pub state : st ≡ a .state
   pub count : k ≡ a .count
+
+-- M3, M11: what a naming answers and leaves
+pub record AsNamed (a : Naming) (answer : ℕ) (ns ps : List ℕ) : Type 0 where
+  pub told : answer ≡ result (a .number) 0 0
+  pub names : ns ≡ a .left .names
+  pub places : ps ≡ a .left .places
+
+-- M5, M6, M11: what a take-back with points, or a going back, answers and leaves; the entries stay, since they are lent to be read only
+pub record AsReturned (a : Returned) (answer : ℕ) (st : List ℕ) (k : ℕ) (ns ps : List ℕ) : Type 0 where
+  pub told : answer ≡ result (a .number) 0 0
+  pub state : st ≡ a .state
+  pub count : k ≡ a .count
+  pub names : ns ≡ a .left .names
+  pub places : ps ≡ a .left .places

@@ -19,7 +19,10 @@ ghost use Rattle.pass_record.specs.PassRecord.{passRecordInto};
 ghost use Rattle.simulation.specs.Run.{simulateOf, recordByInto, recordInto};
 ghost use Rattle.script.specs.Script.{runTextInto};
 ghost use Rattle.keeping.specs.Keeping.{keepOwn, undoOwn};
-ghost use Rattle.vulcedar.specs.Result.{version, result, ofWritten, ofFoundRule, ofVerdict, ofRuling, ofText, AsKept, AsUndone};
+ghost use Rattle.points.specs.Points.{nameOf};
+ghost use Rattle.rewind.specs.Arrays.{entriesOf};
+ghost use Rattle.rewind.specs.Return.{pointUndoOwn, pointBackOwn};
+ghost use Rattle.vulcedar.specs.Result.{version, result, ofWritten, ofFoundRule, ofVerdict, ofRuling, ofText, AsKept, AsUndone, AsNamed, AsReturned};
 use journal::Entry;
 
 fn packed(number: u8, site: u8) -> u32
@@ -56,7 +59,7 @@ fn of_verdict(v: site::Verdict) -> u32
 pub extern "C" fn vulcedar_version() -> u32
     ensures { λ r. ⌜ r ≡ version ⌝ }
 {
-    65792
+    66048
 }
 
 #[no_mangle]
@@ -197,13 +200,6 @@ fn undo_result(plan: &[u8], state: &mut [u8], len: usize, count: &mut usize, e: 
     packed(keeping::undo(plan, state, len, count, e), 0)
 }
 
-// The place of the last of so many.
-fn last_place(count: usize) -> usize
-    ensures { λ r. ⌜ r ≡ count - 1 ⌝ }
-{
-    if count == 0 { 0 } else { count - 1 }
-}
-
 #[no_mangle]
 pub extern "C" fn vulcedar_undo(
     plan: &[u8],
@@ -214,8 +210,51 @@ pub extern "C" fn vulcedar_undo(
     ensures { λ r. ⌜ AsUndone (undoOwn (now (plan .entry)) (now (state .entry)) (now (entries .entry)) (now (count .entry))) r (now (state .exit)) (now (count .exit)) ⌝ }
 {
     let len = entries.len();
-    let e = journal::entry_at(entries, last_place(*count));
+    let e = journal::entry_at(entries, journal::last_place(*count));
     undo_result(plan, state, len, count, e)
+}
+
+#[no_mangle]
+pub extern "C" fn vulcedar_point_name(
+    name: &[u8],
+    count: usize,
+    names: &mut [u8],
+    places: &mut [u64],
+) -> u32
+    ensures { λ r. ⌜ AsNamed (nameOf (now (name .entry)) count (now (names .entry)) (now (places .entry))) r (now (names .exit)) (now (places .exit)) ⌝ }
+{
+    packed(points::name_point(name, count, names, places), 0)
+}
+
+#[no_mangle]
+pub extern "C" fn vulcedar_point_undo(
+    plan: &[u8],
+    state: &mut [u8],
+    entries: &[[u8; 4]],
+    count: &mut usize,
+    names: &mut [u8],
+    places: &mut [u64],
+) -> u32
+    ensures { λ r. ⌜ AsReturned (pointUndoOwn (now (plan .entry)) (now (state .entry)) (entriesOf (now (entries .entry))) (now (count .entry)) (now (names .entry)) (now (places .entry))) r (now (state .exit)) (now (count .exit)) (now (names .exit)) (now (places .exit)) ⌝ }
+{
+    let number = rewind::point_undo(plan, state, entries, count, names, places);
+    packed(number, 0)
+}
+
+#[no_mangle]
+pub extern "C" fn vulcedar_point_back(
+    plan: &[u8],
+    name: &[u8],
+    state: &mut [u8],
+    entries: &[[u8; 4]],
+    count: &mut usize,
+    names: &mut [u8],
+    places: &mut [u64],
+) -> u32
+    ensures { λ r. ⌜ AsReturned (pointBackOwn (now (plan .entry)) (now (name .entry)) (now (state .entry)) (entriesOf (now (entries .entry))) (now (count .entry)) (now (names .entry)) (now (places .entry))) r (now (state .exit)) (now (count .exit)) (now (names .exit)) (now (places .exit)) ⌝ }
+{
+    let number = rewind::point_back(plan, name, state, entries, count, names, places);
+    packed(number, 0)
 }
 
 #[no_mangle]
