@@ -44,7 +44,7 @@ module _ (p : List ℕ) (lay : Layout) (row : ℕ → ℕ) where
     pub inside : l .count ≤ length (l .entries)
     pub each : (i : ℕ) → i < l .count → KeepsAt p lay row (before (l .entries) i) (getD (l .entries) i noEntry)
 
-  begun-sound : (es : List Entry) → Sound (begun p lay es)
+  pub begun-sound : (es : List Entry) → Sound (begun p lay es)
   unfolding before stepsTo replay replayFrom
   begun-sound es = record { state = refl; inside = omega arith; each = λ i l. absurd (omega arith) }
 
@@ -81,24 +81,25 @@ module _ (p : List ℕ) (lay : Layout) (row : ℕ → ℕ) where
                 rw (before-set es k i e m, getD-set-other es k i e noEntry w) (sound .each i (omega arith)));
           }
 
-      keep-sound : Sound (moved p lay row (lent st es k) (keep code node site))
+      pub keep-sound : Sound (moved p lay row (lent st es k) (keep code node site))
       unfolding moved
       keep-sound = cases (decided (eqb (keptNumber p lay row st es k code node site) 0))
           (λ z. let t = keep-told p lay row st es k code node site (eqb-true _ 0 z) in rw (keep-passed p lay row st es k code node site (t .0) (t .1)) (kept-sound (t .0) (t .1)))
           (λ z. subst Sound (sym (keep-refused p lay row st es k code node site (eqb-false _ 0 z))) sound)
 
     -- a take-back gives the state before the last entry
-    undo-is : (st : List ℕ) (es : List Entry) (k : ℕ) → Sound (lent st es (suc k)) → undoOf p lay row st es (suc k) ≡ undone 0 (before es k) k
+    pub undo-is : (st : List ℕ) (es : List Entry) (k : ℕ) → Sound (lent st es (suc k)) → undoOf p lay row st es (suc k) ≡ undone 0 (before es k) k
     unfolding before
     undo-is st es k sound =
         undo-last p lay row (before es k) (claim .state (stepsTo es k)) es k (sound .inside) (sound .each k (omega arith)) st (sound .state ∙ before-suc es k (sound .inside))
 
-    sound-less : (st : List ℕ) (es : List Entry) (k : ℕ) → Sound (lent st es (suc k)) → Sound (lent (before es k) es k)
-    sound-less st es k sound = record { state = refl; inside = let i = sound .inside in omega arith; each = λ i l. sound .each i (omega arith) }
+    -- and so the journal is sound at every place up to its count
+    pub sound-back : (st : List ℕ) (es : List Entry) (k n : ℕ) → n ≤ k → Sound (lent st es k) → Sound (lent (before es n) es n)
+    sound-back st es k n l sound = record { state = refl; inside = let i = sound .inside in omega arith; each = λ i m. sound .each i (omega arith) }
 
-    undo-sound : (st : List ℕ) (es : List Entry) (k : ℕ) → Sound (lent st es k) → Sound (undoneLent es (undoOf p lay row st es k))
+    pub undo-sound : (st : List ℕ) (es : List Entry) (k : ℕ) → Sound (lent st es k) → Sound (undoneLent es (undoOf p lay row st es k))
     undo-sound st es zero sound = rw (undo-none st es) sound
-    undo-sound st es (suc k) sound = rw (undo-is st es k sound) (sound-less st es k sound)
+    undo-sound st es (suc k) sound = rw (undo-is st es k sound) (sound-back st es (suc k) k (omega arith) sound)
 
     moved-sound : (l : Lent) → Sound l → (m : Move) → Sound (moved p lay row l m)
     unfolding moved
@@ -126,7 +127,7 @@ module _ (p : List ℕ) (lay : Layout) (row : ℕ → ℕ) where
           ∙ ap₂ _++_ (numbers-to i (omega arith)) (ap (λ (n : ℕ). n ∷ []) (number-at i h))
           ∙ replicate-end 0 i
 
-      sound-well : KeptWell p lay row l
+      pub sound-well : KeptWell p lay row l
       unfolding remaining before stepsTo
       sound-well = record { state = sound .state; inside = sound .inside; passing = numbers-to (l .count) (omega arith); run = claim .run (remaining p lay row l) }
 

@@ -28,7 +28,7 @@ word-used places i h = rw (ne-eqb (getD places i 0) 0 h)
 
 module _ (names places : List ℕ) where
   -- a slot's own name is one that it has
-  has-own : (i : ℕ) → inUse places i ≡ true → hasName names places (nameAt names i) i ≡ true
+  pub has-own : (i : ℕ) → inUse places i ≡ true → hasName names places (nameAt names i) i ≡ true
   has-own i u = and-join (inUse places i) (sameName (nameAt names i) (nameAt names i)) u (same-self (nameAt names i))
 
   module _ (apart : NamedApart names places) (name : List ℕ) where
