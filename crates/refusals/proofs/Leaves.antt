@@ -42,6 +42,7 @@ use Rattle.keeping.specs.Keeping.{keepOwn, undoOwn}
 use Rattle.script.specs.Script.{rehearseInto, textNumber, textLines, TextRun, textRun, refused, textDone, linesInto, runTextInto}
 use Rattle.refusals.specs.Claim.{RefusalsLeave, guardNumber, eventNumber, messageNumber, simulateNumber, keepNumber, ruleNumber}
 use Rattle.refusals.proofs.ChoiceLaws.{choice, refusal, tested}
+use Rattle.refusals.proofs.Points.{name-leaves, undo-leaves, back-leaves}
 
 rewrite-leaves : (p b : List ℕ) → (rewriteOf p b .number ≡ 0 → ⊥) → rewriteOf p b .out ≡ b
 unfolding rewriteOf
@@ -177,6 +178,9 @@ refusals-leave = record {
   simulate = simulate-leaves;
   keep = keep-left;
   undo = undo-left;
+  point-name = name-leaves;
+  point-undo = λ p st es k ns ps. undo-leaves st k ns ps p es;
+  point-back = λ p name st es k ns ps. back-leaves st k ns ps p name es;
   central = λ p code node m k. central-leaves m k p code node;
   pass = pass-leaves;
   pass-record = λ p tab a m c. pass-record-leaves m c p tab a;

@@ -5,4 +5,5 @@ pub mod PassNumbers
 pub mod Passes
 pub mod Simulated
 pub mod Journal
+pub mod Points
 pub mod Main

@@ -8,6 +8,7 @@ use Rattle.refusals.proofs.Leaves.{refusals-leave}
 use Rattle.refusals.proofs.Passes.{rewrite-passes, depths-pass, guard-passes, step-later, hear-later, central-later, pass-passes, pass-record-passes, record-passes, record-by-passes, run-passes}
 use Rattle.refusals.proofs.Simulated.{simulate-later}
 use Rattle.refusals.proofs.Journal.{keep-later, undo-later}
+use Rattle.refusals.proofs.Points.{name-later, point-undo-later, point-back-later}
 
 accepted-pass : (p : List ℕ) → Accepted p → AcceptedPass p
 accepted-pass p ok = record {
@@ -19,6 +20,8 @@ accepted-pass p ok = record {
   simulate = λ code node q st long. simulate-later p ok st long code node q;
   keep = λ st es k code node q long room. keep-later p ok st long es k code node q room;
   undo = λ st es k long within. undo-later p ok st long es k within;
+  point-undo = λ st es k ns ps long within right. point-undo-later p ok st long es k within ns ps right;
+  point-back = λ name st es k ns ps eight long within right. point-back-later p ok st long es k within ns ps right name eight;
   central = central-later p ok;
   pass = pass-passes p ok;
   pass-record = pass-record-passes p ok;
@@ -28,4 +31,4 @@ accepted-pass p ok = record {
 }
 
 pub demand-1 : Demand1
-demand-1 = record { exact = check-exact; accepted = accepted-pass; refused = refusals-leave }
+demand-1 = record { exact = check-exact; accepted = accepted-pass; point-name = name-later; refused = refusals-leave }

@@ -20,6 +20,9 @@ use Rattle.pass_record.specs.PassRecord.{passRecordInto}
 use Rattle.simulation.specs.Run.{simulateOf, recordInto, recordByInto, runOf}
 use Rattle.journal.specs.declared.Entry.{Entry}
 use Rattle.keeping.specs.Keeping.{keepOwn, undoOwn}
+use Rattle.points.specs.Points.{points, nameOf}
+use Rattle.points.specs.Claim.{PointsRight}
+use Rattle.rewind.specs.Return.{pointUndoOwn, pointBackOwn}
 use Rattle.script.specs.Script.{rehearseInto, runTextInto}
 
 -- H16, H17: the number of the answer to an event at a site, to a message, and to either in a simulation
@@ -62,6 +65,13 @@ pub record RefusalsLeave : Type 0 where
       (keepOwn p st es k code node q .step .state ≡ st) × (keepOwn p st es k code node q .entries ≡ es) × (keepOwn p st es k code node q .count ≡ k)
   -- vulcedar_undo, which never writes the entries
   pub undo : (p st : List ℕ) (es : List Entry) (k : ℕ) → (undoOwn p st es k .number ≡ 0 → ⊥) → (undoOwn p st es k .state ≡ st) × (undoOwn p st es k .count ≡ k)
+  -- vulcedar_point_name
+  pub point-name : (name : List ℕ) (k : ℕ) (ns ps : List ℕ) → (nameOf name k ns ps .number ≡ 0 → ⊥) → nameOf name k ns ps .left ≡ points ns ps
+  -- vulcedar_point_undo and vulcedar_point_back, which never write the entries
+  pub point-undo : (p st : List ℕ) (es : List Entry) (k : ℕ) (ns ps : List ℕ) → (pointUndoOwn p st es k ns ps .number ≡ 0 → ⊥) →
+      (pointUndoOwn p st es k ns ps .state ≡ st) × (pointUndoOwn p st es k ns ps .count ≡ k) × (pointUndoOwn p st es k ns ps .left ≡ points ns ps)
+  pub point-back : (p name st : List ℕ) (es : List Entry) (k : ℕ) (ns ps : List ℕ) → (pointBackOwn p name st es k ns ps .number ≡ 0 → ⊥) →
+      (pointBackOwn p name st es k ns ps .state ≡ st) × (pointBackOwn p name st es k ns ps .count ≡ k) × (pointBackOwn p name st es k ns ps .left ≡ points ns ps)
   -- vulcedar_central
   pub central : (p : List ℕ) (code node : ℕ) (m k : List ℕ) → (ruleNumber p code node m k ≡ 0 → ⊥) →
       (ruleOf p code node m k .marks ≡ m) × (ruleOf p code node m k .notes ≡ k)
@@ -104,6 +114,12 @@ pub record AcceptedPass (p : List ℕ) : Type 0 where
   pub keep : (st : List ℕ) (es : List Entry) (k code node q : ℕ) → length st ≡ size p * size p → k < length es → Later (keepNumber p st es k code node q)
   -- vulcedar_undo
   pub undo : (st : List ℕ) (es : List Entry) (k : ℕ) → length st ≡ size p * size p → k ≤ length es → Later (undoOwn p st es k .number)
+  -- vulcedar_point_undo
+  pub point-undo : (st : List ℕ) (es : List Entry) (k : ℕ) (ns ps : List ℕ) → length st ≡ size p * size p → k ≤ length es → PointsRight ns ps k →
+      Later (pointUndoOwn p st es k ns ps .number)
+  -- vulcedar_point_back
+  pub point-back : (name st : List ℕ) (es : List Entry) (k : ℕ) (ns ps : List ℕ) → length name ≡ 8 → length st ≡ size p * size p → k ≤ length es → PointsRight ns ps k →
+      Later (pointBackOwn p name st es k ns ps .number)
   -- vulcedar_central
   pub central : (code node : ℕ) (m k : List ℕ) → length m ≡ size p → length k ≡ size p → Later (ruleNumber p code node m k)
   -- vulcedar_pass
@@ -123,5 +139,7 @@ pub record Demand1 : Type 0 where
   pub exact : CheckExact
   -- H0 to H7
   pub accepted : (p : List ℕ) → Accepted p → AcceptedPass p
+  -- M2, M3: vulcedar_point_name, which takes no plan, with right points
+  pub point-name : (name : List ℕ) (k : ℕ) (ns ps : List ℕ) → length name ≡ 8 → k < 18446744073709551615 → PointsRight ns ps k → Later (nameOf name k ns ps .number)
   -- H0
   pub refused : RefusalsLeave
