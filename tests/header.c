@@ -291,21 +291,33 @@ static void mixed(void)
     expect("going back to the point", back_to('b'), VULCEDAR_PASSED);
 }
 
-/* Sixteen points; points, lengths and counts that are not right. */
+/* Every length that is not right, in each call: of the name, of the names, and how many places. */
+static void lengths(void)
+{
+    static const size_t lent[][3] = { { 7, 128, 16 }, { 9, 128, 16 }, { 8, 127, 16 }, { 8, 136, 16 }, { 8, 128, 15 }, { 8, 128, 17 }, { 8, 120, 15 }, { 8, 136, 17 } };
+    uint8_t name[9] = { 'a', 0, 0, 0, 0, 0, 0, 0, 0 }, names[136] = { 'a' };
+    uint64_t places[17] = { 1 };
+    for (size_t i = 0; i < sizeof lent / sizeof lent[0]; i++) {
+        size_t n = lent[i][0], bytes = lent[i][1], words = lent[i][2];
+        expect("naming with another length", vulcedar_point_name(name, n, 1, names, bytes, places, words), VULCEDAR_BAD_BUFFER);
+        if (n == VULCEDAR_NAME_LENGTH)
+            expect("undo with another length", vulcedar_point_undo(chosen, sizeof chosen, journal.state, sizeof journal.state, journal.entries, journal.room, &journal.count, names, bytes, places, words), VULCEDAR_BAD_BUFFER);
+        expect("going back with another length", vulcedar_point_back(chosen, sizeof chosen, name, n, journal.state, sizeof journal.state, journal.entries, journal.room, &journal.count, names, bytes, places, words), VULCEDAR_BAD_BUFFER);
+    }
+    expect("one step as before, and a point", journal.count == 1 && names[0] == 'a' && places[0] == 1, 1);
+    expect("going back with the right ones", vulcedar_point_back(chosen, sizeof chosen, name, 8, journal.state, sizeof journal.state, journal.entries, journal.room, &journal.count, names, 128, places, 16), VULCEDAR_PASSED);
+    expect("the step once more", keep(VULCEDAR_START, 0, VULCEDAR_HAPPENS), result(VULCEDAR_PASSED, 0, 0x01));
+}
+
+/* Sixteen points; points and counts that are not right. */
 static void too_many(void)
 {
-    static const uint8_t name[VULCEDAR_NAME_LENGTH + 1] = { 'z', 0, 0, 0, 0, 0, 0, 0, 0 };
     vulcedar_points before;
     memset(&points, 0, sizeof points);
     for (char letter = 'a'; letter <= 'p'; letter++) expect("one of sixteen", name_here(letter), VULCEDAR_PASSED);
     before = points;
     expect("a seventeenth", name_here('z'), VULCEDAR_NO_FREE_POINT);
     expect("a known one", name_here('p'), VULCEDAR_PASSED);
-    expect("a name of seven bytes", vulcedar_point_name(name, 7, 1, points.names, sizeof points.names, points.places, 16), VULCEDAR_BAD_BUFFER);
-    expect("a name of nine bytes", vulcedar_point_name(name, 9, 1, points.names, sizeof points.names, points.places, 16), VULCEDAR_BAD_BUFFER);
-    expect("names of 127 bytes", vulcedar_point_name(name, 8, 1, points.names, 127, points.places, 16), VULCEDAR_BAD_BUFFER);
-    expect("fifteen places", vulcedar_point_name(name, 8, 1, points.names, 128, points.places, 15), VULCEDAR_BAD_BUFFER);
-    expect("fifteen slots", vulcedar_point_name(name, 8, 1, points.names, 120, points.places, 15), VULCEDAR_BAD_BUFFER);
     expect("naming behind the last number", name_at('p', SIZE_MAX), VULCEDAR_BAD_BUFFER);
     expect("the points are left", memcmp(&points, &before, sizeof points) == 0, 1);
     memcpy(points.names, called('b'), VULCEDAR_NAME_LENGTH);
@@ -393,6 +405,7 @@ int main(void)
     foreign();
     named();
     mixed();
+    lengths();
     too_many();
     foreign_way();
     tables();
