@@ -141,11 +141,9 @@ fn go(broken: &mut Broken, plan: &[u8], place: usize, lent: Lent) -> u32 {
     let mistake = broken.mistake;
     let Lent { state, entries, count } = lent;
     let way = place..*count;
+    let is_trusted = |entry: &Entry| mistake == Mistake::BackTrustsRepeats && entry[3] == 0;
     let faults = |range: std::ops::Range<usize>| {
-        let of_entry = |&[code, node, site, changed]: &Entry| {
-            let is_trusted = mistake == Mistake::BackTrustsRepeats && changed == 0;
-            if is_trusted { 0 } else { fault(plan, [code, node, site, changed]) }
-        };
+        let of_entry = |entry: &Entry| if is_trusted(entry) { 0 } else { fault(plan, *entry) };
         let faults: Vec<u32> =
             entries[range].iter().rev().map(of_entry).filter(|&number| number != 0).collect();
         faults
@@ -164,7 +162,7 @@ fn go(broken: &mut Broken, plan: &[u8], place: usize, lent: Lent) -> u32 {
     let (before, counted) = (state.to_vec(), *count);
     for at in way.clone().rev() {
         let entry = misread(mistake, plan, entries[at]);
-        let result = broken.undo(plan, state, &mut [entry], &mut 1);
+        let result = if is_trusted(&entry) { 0 } else { broken.undo(plan, state, &mut [entry], &mut 1) };
         if number(result) != 0 {
             if mistake != Mistake::BackHalfUndone {
                 state.copy_from_slice(&before);
