@@ -1,7 +1,7 @@
 /*
  * What include/vulcedar.h and docs/GUIDE.md say about calling, tried: null pointers with length 0, where a result has a
- * site, the rule beside a guard, the common table, the version, a journal, and what a false message does. Compiled as C and
- * as C++.
+ * site, the rule beside a guard, the common table, the version, a journal and its points, and what a false message does.
+ * Compiled as C and as C++.
  */
 #include <inttypes.h>
 #include <stdio.h>
@@ -9,6 +9,13 @@
 #include <string.h>
 
 #include "vulcedar.h"
+
+/* Where the bytes of a struct stand, tried by the compiler. */
+#define LAYOUT(what, holds) typedef char what##_layout[(holds) ? 1 : -1]
+LAYOUT(entry, sizeof(vulcedar_entry) == 4 && offsetof(vulcedar_entry, code) == 0 && offsetof(vulcedar_entry, node) == 1);
+LAYOUT(entry_behind, offsetof(vulcedar_entry, site) == 2 && offsetof(vulcedar_entry, changed) == 3);
+LAYOUT(points, sizeof(vulcedar_points) == 256 && offsetof(vulcedar_points, names) == 0 && offsetof(vulcedar_points, places) == 128);
+LAYOUT(limits, VULCEDAR_POINTS_MOST == 16 && VULCEDAR_NAME_LENGTH == 8 && VULCEDAR_UNKNOWN_POINT == 19 && VULCEDAR_NO_FREE_POINT == 20);
 
 static int wrong;
 
@@ -28,7 +35,9 @@ static void nulls(void)
     static const uint8_t plan[] = { VULCEDAR_TASK, VULCEDAR_NO_PARENT };
     static const uint8_t table[] = VULCEDAR_COMMON_TABLE;
     static const uint8_t text[] = { '0', '1', 'f', 'f', '\n', '-', '-', '\n' };
-    uint8_t state[1] = { 0 };
+    static const uint8_t name[VULCEDAR_NAME_LENGTH] = { 0 };
+    uint8_t state[1] = { 0 }, names[VULCEDAR_POINTS_MOST * VULCEDAR_NAME_LENGTH] = { 0 };
+    uint64_t places[VULCEDAR_POINTS_MOST] = { 0 };
     size_t count = 0;
     expect("check of nothing", vulcedar_check(NULL, 0), VULCEDAR_BAD_LENGTH);
     expect("rewrite of nothing", vulcedar_rewrite(NULL, 0, NULL, 0), VULCEDAR_BAD_LENGTH);
@@ -41,6 +50,9 @@ static void nulls(void)
     expect("simulate of nothing", vulcedar_simulate(NULL, 0, VULCEDAR_START, 0, 0, NULL, 0), VULCEDAR_BAD_LENGTH);
     expect("keep of nothing", vulcedar_keep(NULL, 0, VULCEDAR_START, 0, 0, NULL, 0, NULL, 0, &count), VULCEDAR_BAD_LENGTH);
     expect("undo of nothing", vulcedar_undo(NULL, 0, NULL, 0, NULL, 0, &count), VULCEDAR_BAD_LENGTH);
+    expect("naming of nothing", vulcedar_point_name(NULL, 0, 0, NULL, 0, NULL, 0), VULCEDAR_BAD_BUFFER);
+    expect("undo with points of nothing", vulcedar_point_undo(NULL, 0, NULL, 0, NULL, 0, &count, NULL, 0, NULL, 0), VULCEDAR_BAD_LENGTH);
+    expect("going back in nothing", vulcedar_point_back(NULL, 0, NULL, 0, NULL, 0, NULL, 0, &count, NULL, 0, NULL, 0), VULCEDAR_BAD_LENGTH);
     expect("record of nothing", vulcedar_record(NULL, 0, NULL, 0, NULL, 0, NULL, 0), VULCEDAR_BAD_LENGTH);
     expect("central of nothing", vulcedar_central(NULL, 0, VULCEDAR_START, 0, NULL, 0, NULL, 0), VULCEDAR_BAD_LENGTH);
     expect("table of nothing", vulcedar_check_table(NULL, 0), VULCEDAR_BAD_TABLE);
@@ -62,6 +74,17 @@ static void nulls(void)
     expect("keep in no journal", vulcedar_keep(plan, sizeof plan, VULCEDAR_START, 0, VULCEDAR_HAPPENS, state, 1, NULL, 0, &count), VULCEDAR_BAD_BUFFER);
     expect("undo on nothing", vulcedar_undo(plan, sizeof plan, NULL, 0, NULL, 0, &count), VULCEDAR_BAD_BUFFER);
     expect("undo in no journal", vulcedar_undo(plan, sizeof plan, state, 1, NULL, 0, &count), VULCEDAR_NOTHING_TO_UNDO);
+    expect("naming without a name", vulcedar_point_name(NULL, 0, 0, names, sizeof names, places, VULCEDAR_POINTS_MOST), VULCEDAR_BAD_BUFFER);
+    expect("naming without names", vulcedar_point_name(name, sizeof name, 0, NULL, 0, places, VULCEDAR_POINTS_MOST), VULCEDAR_BAD_BUFFER);
+    expect("naming without places", vulcedar_point_name(name, sizeof name, 0, names, sizeof names, NULL, 0), VULCEDAR_BAD_BUFFER);
+    expect("undo with points on nothing", vulcedar_point_undo(plan, sizeof plan, NULL, 0, NULL, 0, &count, names, sizeof names, places, VULCEDAR_POINTS_MOST), VULCEDAR_BAD_BUFFER);
+    expect("undo without points", vulcedar_point_undo(plan, sizeof plan, state, 1, NULL, 0, &count, NULL, 0, NULL, 0), VULCEDAR_BAD_BUFFER);
+    expect("undo with points in no journal", vulcedar_point_undo(plan, sizeof plan, state, 1, NULL, 0, &count, names, sizeof names, places, VULCEDAR_POINTS_MOST), VULCEDAR_NOTHING_TO_UNDO);
+    expect("going back without points", vulcedar_point_back(plan, sizeof plan, name, sizeof name, state, 1, NULL, 0, &count, NULL, 0, NULL, 0), VULCEDAR_BAD_BUFFER);
+    expect("going back without a name", vulcedar_point_back(plan, sizeof plan, NULL, 0, state, 1, NULL, 0, &count, names, sizeof names, places, VULCEDAR_POINTS_MOST), VULCEDAR_BAD_BUFFER);
+    expect("going back to no point", vulcedar_point_back(plan, sizeof plan, name, sizeof name, state, 1, NULL, 0, &count, names, sizeof names, places, VULCEDAR_POINTS_MOST), VULCEDAR_UNKNOWN_POINT);
+    expect("naming the beginning", vulcedar_point_name(name, sizeof name, 0, names, sizeof names, places, VULCEDAR_POINTS_MOST), VULCEDAR_PASSED);
+    expect("going back in no journal", vulcedar_point_back(plan, sizeof plan, name, sizeof name, state, 1, NULL, 0, &count, names, sizeof names, places, VULCEDAR_POINTS_MOST), VULCEDAR_PASSED);
     expect("record of no state", vulcedar_record(plan, sizeof plan, NULL, 0, NULL, 0, NULL, 0), VULCEDAR_BAD_BUFFER);
     expect("central on nothing", vulcedar_central(plan, sizeof plan, VULCEDAR_START, 0, NULL, 0, NULL, 0), VULCEDAR_BAD_BUFFER);
     expect("record by table of no state", vulcedar_record_by(plan, sizeof plan, table, sizeof table, NULL, 0, NULL, 0, NULL, 0), VULCEDAR_BAD_BUFFER);
@@ -116,7 +139,6 @@ static void kept(void)
 {
     journal.room = 3;
     memset(journal.entries, 0xee, sizeof journal.entries);
-    expect("the bytes of an entry", sizeof(vulcedar_entry) == 4 && offsetof(vulcedar_entry, node) == 1 && offsetof(vulcedar_entry, site) == 2 && offsetof(vulcedar_entry, changed) == 3, 1);
     expect("undo of a fresh journal", undo(), VULCEDAR_NOTHING_TO_UNDO);
     expect("early kept start", keep(VULCEDAR_START, 1, VULCEDAR_HAPPENS), result(VULCEDAR_UNMET, 1, 0));
     expect_entry("nothing kept", 0, 0, 0xee, 0xee, 0xee, 0xee);
@@ -185,6 +207,151 @@ static void foreign(void)
     }
 }
 
+/* Points in that journal. Their names are a letter and seven zeros: all eight bytes count, and none of them ends a name. */
+static vulcedar_points points;
+
+static const uint8_t *called(char letter)
+{
+    static uint8_t name[VULCEDAR_NAME_LENGTH];
+    memcpy(name, &letter, 1);
+    return name;
+}
+
+static uint32_t name_at(char letter, size_t count)
+{
+    return vulcedar_point_name(called(letter), VULCEDAR_NAME_LENGTH, count, points.names, sizeof points.names, points.places, VULCEDAR_POINTS_MOST);
+}
+
+static uint32_t name_here(char letter) { return name_at(letter, journal.count); }
+
+static uint32_t undo_to_points(void)
+{
+    return vulcedar_point_undo(chosen, sizeof chosen, journal.state, sizeof journal.state, journal.entries, journal.room, &journal.count, points.names, sizeof points.names, points.places, VULCEDAR_POINTS_MOST);
+}
+
+static uint32_t back_to(char letter)
+{
+    return vulcedar_point_back(chosen, sizeof chosen, called(letter), VULCEDAR_NAME_LENGTH, journal.state, sizeof journal.state, journal.entries, journal.room, &journal.count, points.names, sizeof points.names, points.places, VULCEDAR_POINTS_MOST);
+}
+
+/* How many steps are kept, and the first three slots: a letter and a word each. */
+static void expect_points(const char *what, size_t kept, const char *letters, uint64_t first, uint64_t second, uint64_t third)
+{
+    const uint64_t words[3] = { first, second, third };
+    int right = journal.count == kept;
+    for (size_t slot = 0; slot < 3; slot++) {
+        const uint8_t *name = points.names + slot * VULCEDAR_NAME_LENGTH;
+        right = right && points.places[slot] == words[slot] && memcmp(name, called(letters[slot] == '-' ? '\0' : letters[slot]), VULCEDAR_NAME_LENGTH) == 0;
+    }
+    expect(what, right ? 1 : 0, 1);
+}
+
+/* From a fresh journal: places are named, a point moves, a take-back drops two, and two are gone back to. */
+static void named(void)
+{
+    memset(&journal, 0, sizeof journal);
+    memset(&points, 0, sizeof points);
+    journal.room = 6;
+    expect("going back before there are points", back_to('a'), VULCEDAR_UNKNOWN_POINT);
+    expect("naming of the beginning", name_here('a'), VULCEDAR_PASSED);
+    expect("going back to it at once", back_to('a'), VULCEDAR_PASSED);
+    expect("undo of no step", undo_to_points(), VULCEDAR_NOTHING_TO_UNDO);
+    expect("a kept start", keep(VULCEDAR_START, 0, VULCEDAR_HAPPENS), result(VULCEDAR_PASSED, 0, 0x01));
+    expect("naming behind one step", name_here('b'), VULCEDAR_PASSED);
+    expect("a kept message", keep(VULCEDAR_START, 0, 1), VULCEDAR_PASSED);
+    expect("a kept repeat", keep(VULCEDAR_START, 0, 1), VULCEDAR_PASSED);
+    expect("naming behind three", name_here('c'), VULCEDAR_PASSED);
+    expect_points("three points", 3, "abc", 1, 2, 4);
+    expect("naming again", name_here('a'), VULCEDAR_PASSED);
+    expect_points("a point that moved", 3, "abc", 4, 2, 4);
+    expect("undo past two points", undo_to_points(), VULCEDAR_PASSED);
+    expect_points("their slots are free", 2, "-b-", 0, 2, 0);
+    expect("going back to one of them", back_to('c'), VULCEDAR_UNKNOWN_POINT);
+    expect("a new name", name_here('d'), VULCEDAR_PASSED);
+    expect_points("is in the first free slot", 2, "db-", 3, 2, 0);
+    expect("a kept start of 1", keep(VULCEDAR_START, 1, VULCEDAR_HAPPENS), result(VULCEDAR_PASSED, 1, 0x51));
+    expect("going back over it", back_to('d'), VULCEDAR_PASSED);
+    expect("its bit is cleared", journal.state[4], 0);
+    expect("the message's bit is left", journal.state[3], 1u << (VULCEDAR_START - 1));
+    expect("going back to the first step", back_to('b'), VULCEDAR_PASSED);
+    expect_points("the later point is dropped", 1, "-b-", 0, 2, 0);
+    expect("the message's bit is cleared", journal.state[3], 0);
+    expect("the first step's bit is left", journal.state[0], 1u << (VULCEDAR_START - 1));
+}
+
+/* vulcedar_undo leaves a point above the count; every call with points is refused until a step is kept there again. */
+static void mixed(void)
+{
+    expect("undo without points", undo(), VULCEDAR_PASSED);
+    expect("naming below a point", name_here('e'), VULCEDAR_BAD_BUFFER);
+    expect("undo below a point", undo_to_points(), VULCEDAR_BAD_BUFFER);
+    expect("going back below a point", back_to('b'), VULCEDAR_BAD_BUFFER);
+    expect_points("all is left", 0, "-b-", 0, 2, 0);
+    expect("the step once more", keep(VULCEDAR_START, 0, VULCEDAR_HAPPENS), result(VULCEDAR_PASSED, 0, 0x01));
+    expect("going back to the point", back_to('b'), VULCEDAR_PASSED);
+}
+
+/* Every length that is not right, in each call: of the name, of the names, and how many places. */
+static void lengths(void)
+{
+    static const size_t lent[][3] = { { 7, 128, 16 }, { 9, 128, 16 }, { 8, 127, 16 }, { 8, 136, 16 }, { 8, 128, 15 }, { 8, 128, 17 }, { 8, 120, 15 }, { 8, 136, 17 } };
+    uint8_t name[9] = { 'a', 0, 0, 0, 0, 0, 0, 0, 0 }, names[136] = { 'a' };
+    uint64_t places[17] = { 1 };
+    for (size_t i = 0; i < sizeof lent / sizeof lent[0]; i++) {
+        size_t n = lent[i][0], bytes = lent[i][1], words = lent[i][2];
+        expect("naming with another length", vulcedar_point_name(name, n, 1, names, bytes, places, words), VULCEDAR_BAD_BUFFER);
+        if (n == VULCEDAR_NAME_LENGTH)
+            expect("undo with another length", vulcedar_point_undo(chosen, sizeof chosen, journal.state, sizeof journal.state, journal.entries, journal.room, &journal.count, names, bytes, places, words), VULCEDAR_BAD_BUFFER);
+        expect("going back with another length", vulcedar_point_back(chosen, sizeof chosen, name, n, journal.state, sizeof journal.state, journal.entries, journal.room, &journal.count, names, bytes, places, words), VULCEDAR_BAD_BUFFER);
+    }
+    expect("one step as before, and a point", journal.count == 1 && names[0] == 'a' && places[0] == 1, 1);
+    expect("going back with the right ones", vulcedar_point_back(chosen, sizeof chosen, name, 8, journal.state, sizeof journal.state, journal.entries, journal.room, &journal.count, names, 128, places, 16), VULCEDAR_PASSED);
+    expect("the step once more", keep(VULCEDAR_START, 0, VULCEDAR_HAPPENS), result(VULCEDAR_PASSED, 0, 0x01));
+}
+
+/* Sixteen points; points and counts that are not right. */
+static void too_many(void)
+{
+    vulcedar_points before;
+    memset(&points, 0, sizeof points);
+    for (char letter = 'a'; letter <= 'p'; letter++) expect("one of sixteen", name_here(letter), VULCEDAR_PASSED);
+    before = points;
+    expect("a seventeenth", name_here('z'), VULCEDAR_NO_FREE_POINT);
+    expect("a known one", name_here('p'), VULCEDAR_PASSED);
+    expect("naming behind the last number", name_at('p', SIZE_MAX), VULCEDAR_BAD_BUFFER);
+    expect("the points are left", memcmp(&points, &before, sizeof points) == 0, 1);
+    memcpy(points.names, called('b'), VULCEDAR_NAME_LENGTH);
+    expect("two of one name", name_here('p'), VULCEDAR_BAD_BUFFER);
+    points.places[0] = 0;
+    expect("one of them free", name_here('p'), VULCEDAR_PASSED);
+    expect("naming behind all but the last number", name_at('p', SIZE_MAX - 1), VULCEDAR_PASSED);
+    expect("its word", points.places[15] == UINT64_MAX, 1);
+    expect("a point above the count", name_here('a'), VULCEDAR_BAD_BUFFER);
+}
+
+/* A way back over entries that no simulation left: the first fault that is met counts, and all is left. */
+static void foreign_way(void)
+{
+    static const vulcedar_entry fine = { VULCEDAR_ABORT, 2, 1, 1 }, no_site = { VULCEDAR_START, 0, 3, 0 }, no_event = { VULCEDAR_YES, 0, VULCEDAR_HAPPENS, 1 };
+    memset(journal.state, 0xff, sizeof journal.state);
+    memset(&points, 0, sizeof points);
+    journal.entries[0] = no_site, journal.entries[1] = no_site, journal.entries[2] = no_event, journal.entries[3] = fine;
+    journal.count = 1;
+    expect("naming", name_here('a'), VULCEDAR_PASSED);
+    journal.count = 4;
+    expect("naming the end", name_here('b'), VULCEDAR_PASSED);
+    expect("going back", back_to('a'), VULCEDAR_NOT_APPLICABLE);
+    journal.entries[2] = fine;
+    expect("going back", back_to('a'), VULCEDAR_NOT_IN_PLAN);
+    expect("going back to a name that is unknown", back_to('c'), VULCEDAR_UNKNOWN_POINT);
+    for (size_t i = 0; i < sizeof journal.state; i++) expect("the state is left", journal.state[i], 0xff);
+    expect_points("and so is all else", 4, "ab-", 2, 5, 0);
+    journal.entries[1] = fine;
+    expect("going back", back_to('a'), VULCEDAR_PASSED);
+    expect("the bit that the entries name", journal.state[5], 0xff - (1u << (VULCEDAR_ABORT - 1)));
+    expect_points("the point at the end is dropped", 1, "a--", 2, 0, 0);
+}
+
 /* The common table: what a record has without one. */
 static void tables(void)
 {
@@ -236,8 +403,13 @@ int main(void)
     kept();
     taken_back();
     foreign();
+    named();
+    mixed();
+    lengths();
+    too_many();
+    foreign_way();
     tables();
     false_message();
-    if (wrong == 0) printf("header: nulls, parts of results, a journal, tables, the version and a false message are as it says\n");
+    if (wrong == 0) printf("header: nulls, parts of results, a journal, its points, tables, the version and a false message are as it says\n");
     return wrong == 0 ? 0 : 1;
 }

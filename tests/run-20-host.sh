@@ -40,4 +40,4 @@ while IFS= read -r line; do
   grep -qxF -- "$line" examples/training.c || { echo "host: the guide shows a line that examples/training.c has not: $line"; exit 1; }
 done < "$out/shown"
 tail -n 22 "$out/1.txt"
-echo "host: 100 jobs over a bad line, every end record is the pass's; the training room takes back what it should"
+echo "host: 100 jobs over a bad line, every end record is the pass's; the training room takes back what it should, and goes back where it should"

@@ -18,7 +18,10 @@ enum { NODES = VULCEDAR_NODES_MOST };
 static uint8_t plan[2 * NODES], row[NODES], marks[NODES], notes[NODES], classes[NODES], answers[NODES], out[2 * NODES];
 static uint8_t state[NODES * NODES], buf[VULCEDAR_GUARD_MOST], text[VULCEDAR_TEXT_MOST], printed[VULCEDAR_PRINTED_MOST];
 static size_t text_len, fresh, one;
-static vulcedar_entry kept[1], event[1], message[1];
+static vulcedar_entry kept[1], event[1], message[1], way[8];
+static size_t eight;
+static vulcedar_points points;
+static const uint8_t zeros[VULCEDAR_NAME_LENGTH]; /* the first point's name */
 static const uint8_t table[] = VULCEDAR_COMMON_TABLE;
 static uint32_t nodes, code, node, answer;
 
@@ -38,6 +41,9 @@ static void keep_event(void) { answer = vulcedar_keep(plan, 2 * nodes, code, nod
 static void keep_message(void) { answer = vulcedar_keep(plan, 2 * nodes, code, node, 0, state, nodes * nodes, kept, 1, &fresh); }
 static void undo_event(void) { answer = vulcedar_undo(plan, 2 * nodes, state, nodes * nodes, event, 1, &one); }
 static void undo_message(void) { answer = vulcedar_undo(plan, 2 * nodes, state, nodes * nodes, message, 1, &one); }
+static void point_name(void) { answer = vulcedar_point_name(zeros, sizeof zeros, eight, points.names, sizeof points.names, points.places, VULCEDAR_POINTS_MOST); }
+static void point_undo(void) { answer = vulcedar_point_undo(plan, 2 * nodes, state, nodes * nodes, way, 8, &eight, points.names, sizeof points.names, points.places, VULCEDAR_POINTS_MOST); }
+static void point_back(void) { answer = vulcedar_point_back(plan, 2 * nodes, zeros, sizeof zeros, state, nodes * nodes, way, 8, &eight, points.names, sizeof points.names, points.places, VULCEDAR_POINTS_MOST); }
 static void record(void) { answer = vulcedar_record(plan, 2 * nodes, state, nodes * nodes, marks, nodes, classes, nodes); }
 static void record_by(void) { answer = vulcedar_record_by(plan, 2 * nodes, table, sizeof table, state, nodes * nodes, marks, nodes, classes, nodes); }
 static void central(void) { answer = vulcedar_central(plan, 2 * nodes, code, node, marks, nodes, notes, nodes); }
@@ -52,6 +58,7 @@ static struct call { const char *name; void (*run)(void); int events; size_t mos
     { "hear", hear, 1, 0 }, { "pass", pass, 0, 0 }, { "simulate (event)", happen, 1, 0 }, { "simulate (message)", tell, 1, 0 },
     { "keep (event)", keep_event, 1, 0 }, { "keep (message)", keep_message, 1, 0 },
     { "undo (event)", undo_event, 1, 0 }, { "undo (message)", undo_message, 1, 0 },
+    { "point_name", point_name, 0, 0 }, { "point_undo", point_undo, 1, 0 }, { "point_back", point_back, 1, 0 },
     { "record", record, 0, 0 }, { "record_by", record_by, 0, 0 }, { "central", central, 1, 0 },
     { "check_table", check_table, 0, 0 }, { "pass_record", pass_record, 0, 0 }, { "version", version, 0, 0 }, { "rehearse", rehearse, 0, 0 },
 };
@@ -94,6 +101,12 @@ static void lend(enum heard heard)
     one = 1;
     event[0] = (vulcedar_entry){ (uint8_t)code, (uint8_t)node, VULCEDAR_HAPPENS, 1 };
     message[0] = (vulcedar_entry){ (uint8_t)code, (uint8_t)node, 0, 1 };
+    eight = 8;
+    for (size_t i = 0; i < 8; i++) way[i] = i % 2 ? event[0] : message[0];
+    for (size_t slot = 0; slot < VULCEDAR_POINTS_MOST; slot++) { /* all in use, the first at the beginning of the way */
+        memset(points.names + slot * VULCEDAR_NAME_LENGTH, (int)slot, VULCEDAR_NAME_LENGTH);
+        points.places[slot] = 1 + slot % 9;
+    }
 }
 
 static void measure(struct call *c, size_t none, enum heard heard)

@@ -4,13 +4,14 @@
 use crate::fixture::{Fixture, PlacedStep};
 use differential::Implementation;
 use differential::driver::Step;
-use differential::implementation::Entry;
+use differential::implementation::{Entry, Slots};
+use differential::slots::{Name, SLOTS};
 use differential::tables::COMMON;
 use differential::texts::OUT_BYTES;
 use std::hint::black_box;
 
 /// The measured functions.
-pub const NAMES: [&str; 17] = [
+pub const NAMES: [&str; 21] = [
     "check",
     "depths",
     "rewrite",
@@ -22,6 +23,10 @@ pub const NAMES: [&str; 17] = [
     "simulate",
     "keep",
     "undo",
+    "point_name",
+    "point_full",
+    "point_undo",
+    "point_back",
     "record",
     "record_by",
     "check_table",
@@ -38,6 +43,17 @@ pub const KEY: &str = "key";
 /// for what is kept, and the last step is what is taken back.
 const PLACES: usize = 64;
 
+/// How many steps are gone back over.
+const WAY: usize = 8;
+
+/// The points, in the first slots: that which is gone back to, two that are
+/// dropped on the way, the second of them by a take-back too, and one that is
+/// far off.
+const POINTS: [usize; 4] = [PLACES / 2 - WAY, PLACES / 2 - WAY / 2, PLACES / 2, PLACES / 8];
+
+/// The first slot that is free.
+const FREE: usize = POINTS.len();
+
 /// How often functions without events are called in a round.
 const CALLS: usize = 100;
 
@@ -51,6 +67,38 @@ pub struct Work {
     rewritten: Vec<u8>,
     lines: Vec<u8>,
     entries: Vec<Entry>,
+    points: Points,
+    /// Points in all slots.
+    full: Points,
+}
+
+/// Slots.
+struct Points {
+    names: [Name; SLOTS],
+    places: [u64; SLOTS],
+}
+
+impl Points {
+    /// Points at these places, in the first slots.
+    fn at(places: &[usize]) -> Points {
+        let mut points = Points { names: [[0; 8]; SLOTS], places: [0; SLOTS] };
+        places.iter().enumerate().for_each(|(slot, &place)| points.put(slot, place));
+        points
+    }
+
+    /// The name of a slot's point: it differs from the others in its last byte.
+    fn name(slot: usize) -> Name {
+        [7, 7, 7, 7, 7, 7, 7, slot as u8]
+    }
+
+    fn put(&mut self, slot: usize, place: usize) {
+        self.names[slot] = Points::name(slot);
+        self.places[slot] = place as u64 + 1;
+    }
+
+    fn slots(&mut self) -> Slots<'_> {
+        Slots { names: self.names.as_flattened_mut(), places: &mut self.places }
+    }
 }
 
 impl Work {
@@ -66,6 +114,8 @@ impl Work {
             rewritten: vec![0; 2 * nodes],
             lines: vec![0; OUT_BYTES],
             entries: vec![[0; 4]; PLACES],
+            points: Points::at(&POINTS),
+            full: Points::at(&[PLACES / 8; SLOTS]),
         }
     }
 
@@ -73,10 +123,10 @@ impl Work {
     pub fn calls(&self) -> usize {
         match self.function {
             "check" | "depths" | "rewrite" | "pass" | "record" | "record_by" => CALLS,
-            "check_table" | "pass_record" => CALLS,
+            "check_table" | "pass_record" | "point_name" | "point_full" => CALLS,
             "rehearse" => 1,
             KEY => 2 * self.fixture.plan.len(),
-            "simulate" | "keep" | "undo" => self.fixture.steps.len(),
+            "simulate" | "keep" | "undo" | "point_undo" | "point_back" => self.fixture.steps.len(),
             _ => self.fixture.events.len(),
         }
     }
@@ -119,6 +169,19 @@ impl Work {
             "simulate" => self.simulations(subject),
             "keep" => self.keeps(subject),
             "undo" => self.undos(subject),
+            "point_name" => self.repeat(|work| {
+                let Points { names, places } = &mut work.points;
+                let slots = Slots { names: names.as_flattened_mut(), places };
+                let result = subject.point_name(black_box(&Points::name(FREE)), PLACES / 2, slots);
+                result + std::mem::take(&mut places[FREE]) as u32
+            }),
+            "point_full" => self.repeat(|work| {
+                let name = Points::name(SLOTS - 1);
+                let result = subject.point_name(black_box(&name), PLACES / 2, work.full.slots());
+                result + work.full.places[SLOTS - 1] as u32
+            }),
+            "point_undo" => self.point_undos(subject),
+            "point_back" => self.point_backs(subject),
             "central" => self.centrals(subject),
             other => panic!("no work for {other}"),
         }
@@ -199,6 +262,45 @@ impl Work {
         })
     }
 
+    /// Each step as the last entry, behind which the third point is.
+    fn point_undos(&mut self, subject: &mut impl Implementation) -> u32 {
+        let mut points = std::mem::replace(&mut self.points, Points::at(&[]));
+        let sum = self.on_states(|plan, Step { code, node, site }, state, entries| {
+            let mut count = PLACES / 2;
+            entries[count - 1] = [code as u8, node as u8, site as u8, 1];
+            let result = subject.point_undo(plan, state, entries, black_box(&mut count), points.slots());
+            let sum = result + count as u32 + points.places[2] as u32;
+            points.put(2, POINTS[2]);
+            sum
+        });
+        self.points = points;
+        sum
+    }
+
+    /// Each step as the oldest of those behind the first point, with those that
+    /// follow it.
+    fn point_backs(&mut self, subject: &mut impl Implementation) -> u32 {
+        let Fixture { plan, steps, state, .. } = &mut self.fixture;
+        let mut sum = 0;
+        for first in 0..steps.len() {
+            let way: [PlacedStep; WAY] = std::array::from_fn(|next| steps[(first + next) % steps.len()]);
+            for (entry, placed) in self.entries[POINTS[0]..].iter_mut().zip(&way) {
+                let Step { code, node, site } = placed.step;
+                *entry = [code as u8, node as u8, site as u8, 1];
+            }
+            let before = way.map(|placed| state[placed.place]);
+            let mut count = PLACES / 2;
+            let (name, slots) = (Points::name(0), self.points.slots());
+            let plan = black_box(&*plan);
+            let entries = &mut self.entries;
+            let result = subject.point_back(plan, &name, state, entries, black_box(&mut count), slots);
+            sum = mix(sum, result + count as u32 + self.points.places[1] as u32);
+            way.iter().zip(before).for_each(|(placed, byte)| state[placed.place] = byte);
+            [1, 2].into_iter().for_each(|slot| self.points.put(slot, POINTS[slot]));
+        }
+        sum
+    }
+
     /// Each step on the state.
     fn on_states(&mut self, mut call: impl FnMut(&[u8], Step, &mut [u8], &mut [Entry]) -> u32) -> u32 {
         let Fixture { plan, steps, state, .. } = &mut self.fixture;
@@ -244,6 +346,27 @@ mod tests {
             let first = work.run(&mut Reference);
             assert_eq!(work.run(&mut Reference), first, "{function}");
             assert_eq!(work.fixture.state, state, "{function}");
+            assert_eq!(work.points.places, Points::at(&POINTS).places, "{function}");
         }
+    }
+
+    /// The calls with points do what is to be measured.
+    #[test]
+    fn points_are_named_and_gone_back_to() {
+        let fixture = Fixture::new(10);
+        let mut work = Work::new("point_back", &fixture);
+        let mut state = vec![0xff; 100];
+        let mut count = PLACES / 2;
+        let placed = fixture.steps[0];
+        let Step { code, node, site } = placed.step;
+        work.entries.fill([code as u8, node as u8, site as u8, 1]);
+        let slots = work.points.slots();
+        let name = Points::name(0);
+        let result =
+            Reference.point_back(&fixture.plan, &name, &mut state, &mut work.entries, &mut count, slots);
+        assert_eq!((result, count, work.points.places[1]), (0, POINTS[0], 0));
+        assert_ne!(state[placed.place], 0xff);
+        assert_eq!(Reference.point_name(&Points::name(FREE), count, work.full.slots()), 0);
+        assert_eq!(work.full.places[FREE], count as u64 + 1);
     }
 }

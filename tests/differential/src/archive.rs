@@ -1,7 +1,7 @@
 //! The C archive, and the program `rehearse` beside it.
 
 use crate::driver::Step;
-use crate::implementation::Implementation;
+use crate::implementation::{Implementation, Slots};
 use crate::program::Program;
 use vulcedar::Entry;
 
@@ -61,6 +61,33 @@ impl Implementation for Archive {
 
     fn undo(&mut self, plan: &[u8], state: &mut [u8], entries: &mut [Entry], count: &mut usize) -> u32 {
         vulcedar::undo(plan, state, entries, count)
+    }
+
+    fn point_name(&mut self, name: &[u8], count: usize, slots: Slots) -> u32 {
+        vulcedar::point_name(name, count, slots.names, slots.places)
+    }
+
+    fn point_undo(
+        &mut self,
+        plan: &[u8],
+        state: &mut [u8],
+        entries: &mut [Entry],
+        count: &mut usize,
+        slots: Slots,
+    ) -> u32 {
+        vulcedar::point_undo(plan, state, entries, count, slots.names, slots.places)
+    }
+
+    fn point_back(
+        &mut self,
+        plan: &[u8],
+        name: &[u8],
+        state: &mut [u8],
+        entries: &mut [Entry],
+        count: &mut usize,
+        slots: Slots,
+    ) -> u32 {
+        vulcedar::point_back(plan, name, state, entries, count, slots.names, slots.places)
     }
 
     fn record(&mut self, plan: &[u8], state: &[u8], marks: &mut [u8], classes: &mut [u8]) -> u32 {

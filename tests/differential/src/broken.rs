@@ -3,9 +3,11 @@
 
 use crate::codes::*;
 use crate::driver::{Step, Tree};
-use crate::implementation::{Entry, Implementation, Reference};
+use crate::implementation::{Entry, Implementation, Reference, Slots};
 use crate::tables;
 use crate::texts::{OUT_BYTES, Sound};
+
+mod points;
 
 /// A mistake: those the document warns of, its worthless versions, and slips
 /// at the borders.
@@ -245,11 +247,103 @@ pub enum Mistake {
     TextWithReturns,
     /// A refused plan is reported before the rest of the text is read.
     PlanBeforeText,
+    /// A naming that moves a point leaves it in its old slot too.
+    MovedPointStandsTwice,
+    /// Where no slot is free, a known name too is refused with 20.
+    KnownNameNeedsAFreeSlot,
+    /// A new name gets the last free slot.
+    LastFreeSlot,
+    /// Where no slot is free, a new name gets the first one.
+    FullSlotsOverwritten,
+    /// A new name gets the free slot that still has it.
+    FreeNameTakesItsSlot,
+    /// A point's word is the count, not one more.
+    WordIsTheCount,
+    /// A count of which no word can be made is named with word 0.
+    CountWraps,
+    /// Only seven bytes of names are compared.
+    SevenBytesOfAName,
+    /// Names end at their first zero.
+    NameEndsAtZero,
+    /// A name may have any length.
+    NameOfAnyLength,
+    /// There may be any number of slots.
+    SlotsOfAnyNumber,
+    /// Two points may have one name.
+    TwoOfOneName,
+    /// Names of free slots must be different too.
+    FreeNamesCompared,
+    /// A point may be past the count.
+    PointPastTheCount,
+    /// A point at the count is taken for one past it.
+    PointAtTheCountRefused,
+    /// Places are cut to 32 bits.
+    PlacesCut,
+    /// 20 comes before points that are not right.
+    NoSlotBeforePoints,
+    /// A take-back leaves the points that it passes.
+    TakeBackDropsNothing,
+    /// A going back leaves the points that it passes.
+    BackDropsNothing,
+    /// A point exactly at the new count is dropped.
+    DropsAtTheCount,
+    /// The name of a point that is dropped stays.
+    DroppedNamesStay,
+    /// Where points are dropped, names of free slots are cleared too.
+    DropClearsFreeNames,
+    /// 16 comes before points that are not right.
+    NoStepBeforePoints,
+    /// An entry's 8 or 9 comes before points that are not right.
+    EntryBeforePoints,
+    /// A take-back that its entry refuses has already dropped points.
+    RefusedTakeBackDrops,
+    /// The point that is gone back to is dropped.
+    BackDropsItsPoint,
+    /// 19 comes after the last entry's 8 or 9.
+    UnknownAfterEntries,
+    /// 19 comes before points that are not right.
+    UnknownBeforePoints,
+    /// The name of a free slot can be gone back to, to the beginning.
+    FreeNameIsGoneBackTo,
+    /// A going back that is refused on its way has taken some steps back.
+    BackHalfUndone,
+    /// Of several entries that are refused on the way the oldest counts.
+    FirstFaultFromTheFront,
+    /// Of several entries that are refused on the way the lowest number counts.
+    LowestFaultOnTheWay,
+    /// Going back to the current place is refused with 16.
+    BackToHereRefused,
+    /// Going back without any step is refused with 16.
+    BackFromNoStepRefused,
+    /// One step behind the point is left.
+    BackStopsOneEarly,
+    /// One step before the point is taken back too.
+    BackOneTooFar,
+    /// Going back over a repeat clears its bit.
+    BackClearsRepeats,
+    /// Going back simulates the steps up to the point, whatever the state was.
+    BackReplays,
+    /// Entries before the point are looked at too.
+    BackLooksBelowThePoint,
+    /// On the way back an entry that set nothing is not looked at.
+    BackTrustsRepeats,
+    /// The entries that are gone back over are cleared.
+    BackRewritesEntries,
+    /// A going back answers the place as a value.
+    BackAnswersThePlace,
+    /// A going back leaves the count.
+    BackLeavesTheCount,
+    /// On the way back only a changed byte of 1 says that a bit was set.
+    BackOnlyIfOne,
+    /// Going back over a pick clears the bit in the child's row.
+    BackPickAtTheChild,
+    /// Going back over a message clears the bit in the event's own row.
+    BackMessageAtTheEvent,
 }
 
 impl Mistake {
     /// All mistakes; the first is number 1.
-    pub const ALL: [Mistake; 117] = [
+    pub const ALL: [Mistake; 163] = [
         Mistake::CommitUnlessAbortHeard,
         Mistake::PickAtTheChild,
         Mistake::TurnedDownStillRuns,
@@ -367,6 +461,52 @@ impl Mistake {
         Mistake::DepthsLengthFirst,
         Mistake::TextWithReturns,
         Mistake::PlanBeforeText,
+        Mistake::MovedPointStandsTwice,
+        Mistake::KnownNameNeedsAFreeSlot,
+        Mistake::LastFreeSlot,
+        Mistake::FullSlotsOverwritten,
+        Mistake::FreeNameTakesItsSlot,
+        Mistake::WordIsTheCount,
+        Mistake::CountWraps,
+        Mistake::SevenBytesOfAName,
+        Mistake::NameEndsAtZero,
+        Mistake::NameOfAnyLength,
+        Mistake::SlotsOfAnyNumber,
+        Mistake::TwoOfOneName,
+        Mistake::FreeNamesCompared,
+        Mistake::PointPastTheCount,
+        Mistake::PointAtTheCountRefused,
+        Mistake::PlacesCut,
+        Mistake::NoSlotBeforePoints,
+        Mistake::TakeBackDropsNothing,
+        Mistake::BackDropsNothing,
+        Mistake::DropsAtTheCount,
+        Mistake::DroppedNamesStay,
+        Mistake::DropClearsFreeNames,
+        Mistake::NoStepBeforePoints,
+        Mistake::EntryBeforePoints,
+        Mistake::RefusedTakeBackDrops,
+        Mistake::BackDropsItsPoint,
+        Mistake::UnknownAfterEntries,
+        Mistake::UnknownBeforePoints,
+        Mistake::FreeNameIsGoneBackTo,
+        Mistake::BackHalfUndone,
+        Mistake::FirstFaultFromTheFront,
+        Mistake::LowestFaultOnTheWay,
+        Mistake::BackToHereRefused,
+        Mistake::BackFromNoStepRefused,
+        Mistake::BackStopsOneEarly,
+        Mistake::BackOneTooFar,
+        Mistake::BackClearsRepeats,
+        Mistake::BackReplays,
+        Mistake::BackLooksBelowThePoint,
+        Mistake::BackTrustsRepeats,
+        Mistake::BackRewritesEntries,
+        Mistake::BackAnswersThePlace,
+        Mistake::BackLeavesTheCount,
+        Mistake::BackOnlyIfOne,
+        Mistake::BackPickAtTheChild,
+        Mistake::BackMessageAtTheEvent,
     ];
 }
 
@@ -938,6 +1078,33 @@ impl Implementation for Broken {
             *count -= 1;
         }
         result
+    }
+
+    fn point_name(&mut self, name: &[u8], count: usize, slots: Slots) -> u32 {
+        points::name(self.mistake, name, count, slots)
+    }
+
+    fn point_undo(
+        &mut self,
+        plan: &[u8],
+        state: &mut [u8],
+        entries: &mut [Entry],
+        count: &mut usize,
+        slots: Slots,
+    ) -> u32 {
+        points::undo(self, plan, points::Lent { state, entries, count }, slots)
+    }
+
+    fn point_back(
+        &mut self,
+        plan: &[u8],
+        name: &[u8],
+        state: &mut [u8],
+        entries: &mut [Entry],
+        count: &mut usize,
+        slots: Slots,
+    ) -> u32 {
+        points::back(self, plan, name, points::Lent { state, entries, count }, slots)
     }
 
     fn record(&mut self, plan: &[u8], state: &[u8], marks: &mut [u8], classes: &mut [u8]) -> u32 {

@@ -9,6 +9,10 @@ use crate::random::Random;
 use crate::tables;
 use crate::trial::Trial;
 
+mod points;
+
+pub use points::points;
+
 /// More than the longest guard.
 const LONG_BUFFER: usize = 300;
 

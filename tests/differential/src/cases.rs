@@ -7,6 +7,8 @@ use crate::implementation::Implementation;
 use crate::tables::COMMON;
 use crate::trial::{Trial, hex};
 
+mod points;
+
 /// Plan P of document 01.
 const P: [u8; 12] = [SERIAL, 0xff, TASK, 0, XOR, 0, TASK, 2, TASK, 2, TASK, 0];
 
@@ -22,12 +24,13 @@ pub fn run<S: Implementation, R: Implementation>(trial: &mut Trial<S, R>) {
     lie(trial);
     moves(trial);
     take_backs(trial);
+    points::run(trial);
 }
 
-/// Version 1.1.0.
+/// Version 1.2.0.
 fn version<S: Implementation, R: Implementation>(trial: &mut Trial<S, R>) {
     let version = trial.version();
-    trial.tally.compare(version == 0x01_0100, || format!("the version is {version:08x}"));
+    trial.tally.compare(version == 0x01_0200, || format!("the version is {version:08x}"));
 }
 
 /// A guard: the event, its rule, and what must be written.

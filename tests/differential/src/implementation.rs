@@ -5,6 +5,14 @@ use reference::exported;
 
 pub use reference::journal::Entry;
 
+/// The slots of points, as they are lent to a call.
+pub struct Slots<'a> {
+    /// Eight bytes for each slot.
+    pub names: &'a mut [u8],
+    /// A word for each slot: 0, or one more than the point's place.
+    pub places: &'a mut [u64],
+}
+
 /// An implementation of the rules, behind the interface of the C archive.
 /// Results are packed in the same way.
 pub trait Implementation {
@@ -38,6 +46,28 @@ pub trait Implementation {
     /// Takes the last kept step back. The entries stay; they could be written,
     /// so that it can be seen that they are not.
     fn undo(&mut self, plan: &[u8], state: &mut [u8], entries: &mut [Entry], count: &mut usize) -> u32;
+    /// Names the current place of a journal.
+    fn point_name(&mut self, name: &[u8], count: usize, slots: Slots) -> u32;
+    /// Takes the last kept step back, and drops points. The entries stay, as
+    /// for `undo`.
+    fn point_undo(
+        &mut self,
+        plan: &[u8],
+        state: &mut [u8],
+        entries: &mut [Entry],
+        count: &mut usize,
+        slots: Slots,
+    ) -> u32;
+    /// Goes back to the point of a name. The entries stay, as for `undo`.
+    fn point_back(
+        &mut self,
+        plan: &[u8],
+        name: &[u8],
+        state: &mut [u8],
+        entries: &mut [Entry],
+        count: &mut usize,
+        slots: Slots,
+    ) -> u32;
     /// The end record.
     fn record(&mut self, plan: &[u8], state: &[u8], marks: &mut [u8], classes: &mut [u8]) -> u32;
     /// The end record by a table of classes that is handed in.
@@ -123,6 +153,33 @@ impl Implementation for Reference {
 
     fn undo(&mut self, plan: &[u8], state: &mut [u8], entries: &mut [Entry], count: &mut usize) -> u32 {
         exported::undo(plan, state, entries, count)
+    }
+
+    fn point_name(&mut self, name: &[u8], count: usize, slots: Slots) -> u32 {
+        exported::point_name(name, count, slots.names, slots.places)
+    }
+
+    fn point_undo(
+        &mut self,
+        plan: &[u8],
+        state: &mut [u8],
+        entries: &mut [Entry],
+        count: &mut usize,
+        slots: Slots,
+    ) -> u32 {
+        exported::point_undo(plan, state, entries, count, slots.names, slots.places)
+    }
+
+    fn point_back(
+        &mut self,
+        plan: &[u8],
+        name: &[u8],
+        state: &mut [u8],
+        entries: &mut [Entry],
+        count: &mut usize,
+        slots: Slots,
+    ) -> u32 {
+        exported::point_back(plan, name, state, entries, count, slots.names, slots.places)
     }
 
     fn record(&mut self, plan: &[u8], state: &[u8], marks: &mut [u8], classes: &mut [u8]) -> u32 {

@@ -9,6 +9,8 @@ use crate::lent::{Journal, Pair};
 use crate::random::Random;
 use crate::trial::{Trial, hex};
 
+pub mod points;
+
 /// The longest journal.
 const MOST_PLACES: usize = 1000;
 
@@ -118,6 +120,12 @@ impl<'a, S: Implementation, R: Implementation> Moves<'a, S, R> {
     fn undo(&mut self) -> Result<bool, Parted> {
         let (result, same) = self.trial.undo_on(self.plan, &mut self.journal);
         self.require(same)?;
+        self.was_taken_back(result)
+    }
+
+    /// A take-back had this result: the state must be the one before the last
+    /// step, if there was one.
+    fn was_taken_back(&mut self, result: u32) -> Result<bool, Parted> {
         let last = self.steps.pop();
         let (expected, right) = match &last {
             Some((_, before)) => (0, self.journal.state.subject.is_still(before)),

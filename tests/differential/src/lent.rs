@@ -1,9 +1,9 @@
 //! Buffers lent to a call: with canaries around them, and with a twin for the
 //! reference.
 
-use crate::implementation::Entry;
+use crate::implementation::{Entry, Slots};
 
-/// How many canary bytes stand on each side.
+/// How many canaries stand on each side.
 const MARGIN: usize = 64;
 
 /// The canary at a place; it differs from neighbours and from likely bytes.
@@ -11,67 +11,87 @@ const fn canary(place: usize) -> u8 {
     0xc0 ^ (place as u8).wrapping_mul(29)
 }
 
-const CANARIES: [u8; MARGIN] = {
-    let mut canaries = [0; MARGIN];
-    let mut place = 0;
-    while place < MARGIN {
-        canaries[place] = canary(place);
-        place += 1;
-    }
-    canaries
-};
+/// What is lent one after another: bytes, or words.
+pub trait Unit: Copy + PartialEq + 'static {
+    /// What stands on each side.
+    const CANARIES: [Self; MARGIN];
+}
 
-/// Bytes with canaries on both sides.
+impl Unit for u8 {
+    const CANARIES: [u8; MARGIN] = {
+        let mut canaries = [0; MARGIN];
+        let mut place = 0;
+        while place < MARGIN {
+            canaries[place] = canary(place);
+            place += 1;
+        }
+        canaries
+    };
+}
+
+impl Unit for u64 {
+    const CANARIES: [u64; MARGIN] = {
+        let mut canaries = [0; MARGIN];
+        let mut place = 0;
+        while place < MARGIN {
+            canaries[place] = u64::from_ne_bytes([canary(place); 8]);
+            place += 1;
+        }
+        canaries
+    };
+}
+
+/// Bytes, or words, with canaries on both sides.
 #[derive(Default)]
-pub struct Lent {
-    memory: Vec<u8>,
+pub struct Lent<T = u8> {
+    memory: Vec<T>,
     length: usize,
 }
 
-impl Lent {
+impl<T: Unit> Lent<T> {
     /// Takes a copy of the bytes and sets fresh canaries.
-    pub fn load(&mut self, bytes: &[u8]) {
+    pub fn load(&mut self, bytes: &[T]) {
         self.length = bytes.len();
         self.memory.clear();
-        self.memory.extend(CANARIES);
+        self.memory.extend(T::CANARIES);
         self.memory.extend(bytes);
-        self.memory.extend(CANARIES);
+        self.memory.extend(T::CANARIES);
     }
 
     /// The bytes.
-    pub fn bytes(&self) -> &[u8] {
+    pub fn bytes(&self) -> &[T] {
         &self.memory[MARGIN..][..self.length]
     }
 
     /// The bytes, for writing.
-    pub fn bytes_mut(&mut self) -> &mut [u8] {
+    pub fn bytes_mut(&mut self) -> &mut [T] {
         &mut self.memory[MARGIN..][..self.length]
     }
 
     /// Whether nothing was written on either side.
     pub fn is_fenced(&self) -> bool {
-        self.memory[..MARGIN] == CANARIES && self.memory[MARGIN + self.length..] == CANARIES
+        self.memory[..MARGIN] == T::CANARIES && self.memory[MARGIN + self.length..] == T::CANARIES
     }
 
     /// Whether nothing was written at all.
-    pub fn is_still(&self, bytes: &[u8]) -> bool {
+    pub fn is_still(&self, bytes: &[T]) -> bool {
         self.is_fenced() && self.bytes() == bytes
     }
 }
 
 /// A buffer that both sides write, each its own copy, and what it held before.
 #[derive(Default)]
-pub struct Pair {
+pub struct Pair<T = u8> {
     /// The subject's.
-    pub subject: Lent,
+    pub subject: Lent<T>,
     /// The reference's.
-    pub reference: Vec<u8>,
-    before: Vec<u8>,
+    pub reference: Vec<T>,
+    before: Vec<T>,
 }
 
-impl Pair {
+impl<T: Unit> Pair<T> {
     /// Gives both sides the same bytes.
-    pub fn load(&mut self, bytes: &[u8]) {
+    pub fn load(&mut self, bytes: &[T]) {
         self.subject.load(bytes);
         self.reference.clear();
         self.reference.extend(bytes);
@@ -86,18 +106,17 @@ impl Pair {
 
     /// Whether both sides hold what was loaded.
     pub fn is_untouched(&self) -> bool {
-        self.reference == self.before && self.subject.is_still(&self.before)
+        self.holds(&self.before)
     }
 
-    /// Whether both sides hold what was loaded with these bits set in one
-    /// byte.
-    pub fn has_only_set(&mut self, place: usize, bits: u8) -> bool {
-        let byte = self.before[place] | bits;
-        self.has_only(place, [byte])
+    /// Whether both sides hold these bytes, and the subject wrote nothing
+    /// else.
+    pub fn holds(&self, bytes: &[T]) -> bool {
+        self.reference == bytes && self.subject.is_still(bytes)
     }
 
     /// Whether both sides hold what was loaded with these bytes at a place.
-    pub fn has_only<const SIZE: usize>(&mut self, place: usize, bytes: [u8; SIZE]) -> bool {
+    pub fn has_only<const SIZE: usize>(&mut self, place: usize, bytes: [T; SIZE]) -> bool {
         let mut other = bytes;
         self.before[place..][..SIZE].swap_with_slice(&mut other);
         let same = self.is_untouched();
@@ -111,14 +130,28 @@ impl Pair {
         self.before[place] = self.reference[place];
     }
 
+    /// Takes all that the reference holds as loaded from now on.
+    pub fn keep_all(&mut self) {
+        self.before.copy_from_slice(&self.reference);
+    }
+
     /// How many bytes there are.
     pub fn length(&self) -> usize {
         self.before.len()
     }
 
     /// The bytes before the call.
-    pub fn before(&self) -> &[u8] {
+    pub fn before(&self) -> &[T] {
         &self.before
+    }
+}
+
+impl Pair {
+    /// Whether both sides hold what was loaded with these bits set in one
+    /// byte.
+    pub fn has_only_set(&mut self, place: usize, bits: u8) -> bool {
+        let byte = self.before[place] | bits;
+        self.has_only(place, [byte])
     }
 }
 
@@ -207,6 +240,44 @@ impl Journal {
     }
 }
 
+/// Points, for both sides.
+#[derive(Default)]
+pub struct Points {
+    /// Eight bytes for each slot.
+    pub names: Pair,
+    /// A word for each slot.
+    pub places: Pair<u64>,
+}
+
+impl Points {
+    /// Gives both sides the same.
+    pub fn load(&mut self, names: &[u8], places: &[u64]) {
+        self.names.load(names);
+        self.places.load(places);
+    }
+
+    /// What the subject is lent.
+    pub fn subject(&mut self) -> Slots<'_> {
+        Slots { names: self.names.subject.bytes_mut(), places: self.places.subject.bytes_mut() }
+    }
+
+    /// What the reference is lent.
+    pub fn reference(&mut self) -> Slots<'_> {
+        Slots { names: &mut self.names.reference, places: &mut self.places.reference }
+    }
+
+    /// Whether both sides hold what was loaded.
+    pub fn is_untouched(&self) -> bool {
+        self.names.is_untouched() && self.places.is_untouched()
+    }
+
+    /// Takes what the reference holds as loaded from now on.
+    pub fn keep_all(&mut self) {
+        self.names.keep_all();
+        self.places.keep_all();
+    }
+}
+
 #[cfg(test)]
 mod tests {
     use super::*;
@@ -215,17 +286,37 @@ mod tests {
     fn canaries_notice_a_write_on_either_side() {
         for place in [0, 63, 64 + 5, 64 + 5 + 63] {
             let mut lent = Lent::default();
-            lent.load(&[1, 2, 3, 4, 5]);
+            lent.load(&[1u8, 2, 3, 4, 5]);
             assert!(lent.is_still(&[1, 2, 3, 4, 5]));
             lent.memory[place] ^= 1;
             assert!(!lent.is_fenced());
+            let mut words = Lent::default();
+            words.load(&[1u64, 2, 3, 4, 5]);
+            assert!(words.is_still(&[1, 2, 3, 4, 5]));
+            words.memory[place] ^= 1 << 40;
+            assert!(!words.is_fenced());
         }
+    }
+
+    #[test]
+    fn points_notice_any_change() {
+        let mut points = Points::default();
+        points.load(&[7; 16], &[3, 4]);
+        assert!(points.is_untouched());
+        points.subject().places[1] = 5;
+        assert!(!points.is_untouched() && !points.places.holds(&[3, 5]));
+        points.reference().places[1] = 5;
+        assert!(!points.is_untouched() && points.places.holds(&[3, 5]));
+        points.keep_all();
+        assert!(points.is_untouched());
+        points.subject().names[15] = 8;
+        assert!(!points.is_untouched());
     }
 
     #[test]
     fn a_pair_notices_any_other_change() {
         let mut pair = Pair::default();
-        pair.load(&[0, 8, 0]);
+        pair.load(&[0u8, 8, 0]);
         pair.subject.bytes_mut()[1] |= 1;
         pair.reference[1] |= 1;
         assert!(!pair.is_untouched());

@@ -8,9 +8,10 @@
 //! * [`trial`] makes one call on both sides and compares all that can be seen.
 //! * [`cases`] has cases with known answers; [`calls`] tries single calls,
 //!   [`job`] whole simulations, [`hosts`] the same with rows apart,
-//!   [`journals`] lists of steps that are kept and taken back, [`texts`]
-//!   simulations from text, by the call and by the program; [`run`] puts them
-//!   in turn.
+//!   [`journals`] lists of steps that are kept and taken back, also with named
+//!   points, [`texts`] simulations from text, by the call and by the program;
+//!   [`run`] puts them in turn.
+//! * [`slots`] has what the rules say of points, and names for them.
 //! * [`broken`] has copies of the reference with one mistake each, to show
 //!   that the comparison can fail.
 
@@ -30,6 +31,7 @@ pub mod plans;
 pub mod program;
 pub mod random;
 pub mod run;
+pub mod slots;
 pub mod tables;
 pub mod tally;
 pub mod texts;

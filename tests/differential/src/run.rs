@@ -20,6 +20,9 @@ pub const CASES_PART: u64 = ONLY_CHILD_PART + 1;
 pub const HOSTS_PART: u64 = 23;
 /// The first of the parts with lists of moves; every 32nd is one.
 pub const JOURNALS_PART: u64 = 25;
+/// The first of the parts with lists of moves that have points; every 32nd is
+/// one.
+pub const POINTS_PART: u64 = 27;
 /// Where the parts with texts begin to be numbered.
 const FIRST_TEXT_PART: u64 = 1 << 40;
 
@@ -101,6 +104,8 @@ fn run_part<S: Implementation, R: Implementation>(trial: &mut Trial<S, R>, seed:
         24 => texts::calls(trial, random, TEXTS_CALLED),
         25 => all_journals(trial, random),
         26 => calls::journals(trial, random, &plan),
+        27 => all_points(trial, random),
+        28 => calls::points(trial, random, &plan),
         7 => job::simulate(trial, random, &plan),
         8 | 9 => jobs(trial, random, 20, 60, 1),
         10..=15 => jobs(trial, random, 8, 20, 1),
@@ -142,6 +147,20 @@ fn all_journals<S: Implementation, R: Implementation>(trial: &mut Trial<S, R>, r
     if random.chance(20) {
         let plan = large_plan(random);
         journals::run(trial, random, &plan, 60);
+    }
+}
+
+/// Lists of moves with points, of small, middle and sometimes large plans.
+fn all_points<S: Implementation, R: Implementation>(trial: &mut Trial<S, R>, random: &mut Random) {
+    for (least, most, moves) in [(1, 3, 100), (3, 6, 300), (4, 8, 300), (9, 24, 300)] {
+        let nodes = random.between(least, most);
+        let mut plan = plans::of_size(random, nodes);
+        plans::favour_xor(random, &mut plan);
+        journals::points::run(trial, random, &plan, moves);
+    }
+    if random.chance(10) {
+        let plan = large_plan(random);
+        journals::points::run(trial, random, &plan, 60);
     }
 }
 

@@ -30,6 +30,12 @@ pub enum Function {
     Keep,
     /// `vulcedar_undo`
     Undo,
+    /// `vulcedar_point_name`
+    PointName,
+    /// `vulcedar_point_undo`
+    PointUndo,
+    /// `vulcedar_point_back`
+    PointBack,
     /// `vulcedar_record`
     Record,
     /// `vulcedar_record_by`
@@ -50,7 +56,7 @@ pub enum Function {
 }
 
 /// How many functions there are.
-const FUNCTIONS: usize = 19;
+const FUNCTIONS: usize = 22;
 /// One more than the highest number; 0 is passed.
 const NUMBERS: usize = 22;
 
@@ -68,6 +74,9 @@ impl Function {
         Function::Simulate,
         Function::Keep,
         Function::Undo,
+        Function::PointName,
+        Function::PointUndo,
+        Function::PointBack,
         Function::Record,
         Function::RecordBy,
         Function::CheckTable,
@@ -92,6 +101,9 @@ impl Function {
             Function::Simulate => "simulate",
             Function::Keep => "keep",
             Function::Undo => "undo",
+            Function::PointName => "point_name",
+            Function::PointUndo => "point_undo",
+            Function::PointBack => "point_back",
             Function::Record => "record",
             Function::RecordBy => "record_by",
             Function::CheckTable => "check_table",
@@ -113,7 +125,9 @@ impl Function {
             Function::Step => &[0, 1, 2, 3, 4, 5, 6, 7, 8, 9, 10, 11],
             Function::Pass => &[0, 1, 2, 3, 4, 5, 6, 7, 13, 14],
             Function::Simulate | Function::Keep => &[0, 1, 2, 3, 4, 5, 6, 7, 8, 9, 10, 11, 12],
-            Function::Undo => &[0, 1, 2, 3, 4, 5, 6, 7, 8, 9, 16],
+            Function::Undo | Function::PointUndo => &[0, 1, 2, 3, 4, 5, 6, 7, 8, 9, 16],
+            Function::PointName => &[0, 7, 20],
+            Function::PointBack => &[0, 1, 2, 3, 4, 5, 6, 7, 8, 9, 19],
             Function::Rewrite | Function::Record | Function::CheckDepths => &[0, 1, 2, 3, 4, 5, 6, 7],
             Function::RecordBy => &[0, 1, 2, 3, 4, 5, 6, 7, 21],
             Function::CheckTable => &[0, 21],
@@ -154,6 +168,20 @@ pub struct Jobs {
     pub taken_back: u64,
     /// Steps of such lists that a full journal had no place for.
     pub without_place: u64,
+    /// Points that were named in lists of moves.
+    pub named: u64,
+    /// Of these, moved from where they were.
+    pub moved: u64,
+    /// Points that were dropped.
+    pub dropped: u64,
+    /// New names that had no free slot.
+    pub without_slot: u64,
+    /// Goings back that passed.
+    pub gone_back: u64,
+    /// Steps that they took back.
+    pub gone_over: u64,
+    /// Points of such lists that were gone back to beside the list.
+    pub tried: u64,
 }
 
 /// A count for each rule byte.
@@ -282,6 +310,16 @@ impl fmt::Display for Tally {
             out,
             "journals: {} steps kept ({} repeats), {} taken back; {} had no place",
             jobs.kept, jobs.repeats, jobs.taken_back, jobs.without_place
+        )?;
+        writeln!(
+            out,
+            "points: {} named ({} moved), {} dropped; {} had no slot",
+            jobs.named, jobs.moved, jobs.dropped, jobs.without_slot
+        )?;
+        writeln!(
+            out,
+            "        {} gone back to, over {} steps; {} tried beside",
+            jobs.gone_back, jobs.gone_over, jobs.tried
         )?;
         writeln!(out, "rules of passed events: {} different", self.rules())?;
         writeln!(out, "texts: {}", self.texts)?;

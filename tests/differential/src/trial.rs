@@ -5,9 +5,11 @@
 use crate::codes::{AND, HAPPENS, PICK, TASK, WAITING_AND, bit, number, site, value};
 use crate::driver::{Step, Tree};
 use crate::implementation::{Entry, Implementation};
-use crate::lent::{Journal, Lent, Pair};
+use crate::lent::{Journal, Lent, Pair, Points};
 use crate::tables;
 use crate::tally::{Function, Tally};
+
+mod points;
 
 /// Both sides, and what has been counted.
 pub struct Trial<S, R> {
@@ -23,6 +25,7 @@ pub struct Trial<S, R> {
     one: Pair,
     two: Pair,
     journal: Journal,
+    points: Points,
     /// What the subject's simulation leaves where a step is kept.
     beside: Vec<u8>,
 }
@@ -48,6 +51,7 @@ impl<S: Implementation, R: Implementation> Trial<S, R> {
             one: Pair::default(),
             two: Pair::default(),
             journal: Journal::default(),
+            points: Points::default(),
             beside: vec![],
         }
     }

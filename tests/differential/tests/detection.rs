@@ -3,11 +3,17 @@
 
 use differential::Reference;
 use differential::broken::{Broken, Mistake};
-use differential::run::{CASES_PART, HOSTS_PART, JOURNALS_PART, ONLY_CHILD_PART, Options, run, run_against};
+use differential::run::{CASES_PART, HOSTS_PART, JOURNALS_PART, ONLY_CHILD_PART, POINTS_PART};
+use differential::run::{Options, run, run_against};
+
+/// The mistakes of the calls with points; they stand at the end.
+fn of_points() -> impl Iterator<Item = Mistake> {
+    Mistake::ALL.into_iter().skip_while(|&mistake| mistake != Mistake::MovedPointStandsTwice)
+}
 
 #[test]
 fn two_copies_of_the_reference_agree() {
-    let options = Options { seed: 11, steps: 400_000, texts: 1000, ..Options::default() };
+    let options = Options { seed: 11, steps: 600_000, texts: 1000, ..Options::default() };
     let tally = run(Reference, options);
     assert_eq!(tally.differences(), 0, "{:#?}", tally.described());
     assert_eq!(tally.missing(), []);
@@ -17,6 +23,10 @@ fn two_copies_of_the_reference_agree() {
     assert!(tally.jobs.of_hosts > 10_000, "{}", tally.jobs.of_hosts);
     assert!(tally.jobs.kept > 2000 && tally.jobs.repeats > 200, "{}", tally.jobs.kept);
     assert!(tally.jobs.taken_back > 1000 && tally.jobs.without_place > 300, "{}", tally.jobs.taken_back);
+    assert!(tally.jobs.named > 1000 && tally.jobs.moved > 300, "{}", tally.jobs.named);
+    assert!(tally.jobs.dropped > 300 && tally.jobs.without_slot > 30, "{}", tally.jobs.dropped);
+    assert!(tally.jobs.gone_back > 100 && tally.jobs.gone_over > 300, "{}", tally.jobs.gone_over);
+    assert!(tally.jobs.tried > 300, "{}", tally.jobs.tried);
 }
 
 #[test]
@@ -116,7 +126,7 @@ fn a_mistake_on_both_sides_is_found() {
         Mistake::HearRefusesRepeats,
     ];
     let options = Options { seed: 15, steps: 1_000_000, texts: 0, enough: 1, only: None };
-    for mistake in mistakes {
+    for mistake in mistakes.into_iter().chain(of_points()) {
         let tally = run_against(Broken::new(mistake), Broken::new(mistake), options);
         assert_ne!(tally.differences(), 0, "{mistake:?} on both sides is not found");
         assert!(tally.part < ONLY_CHILD_PART, "{mistake:?} is found in the fixed parts alone");
@@ -129,7 +139,7 @@ fn a_mistake_on_both_sides_is_found() {
 fn cases_have_their_answers() {
     let options = Options { only: Some(CASES_PART), ..Options::default() };
     let tally = run(Reference, options);
-    assert_eq!((tally.comparisons(), tally.differences()), (42, 0), "{:#?}", tally.described());
+    assert_eq!((tally.comparisons(), tally.differences()), (106, 0), "{:#?}", tally.described());
     let mistakes = [
         Mistake::VersionInTheLowestByte,
         Mistake::VersionOneHigher,
@@ -159,7 +169,7 @@ fn cases_have_their_answers() {
         Mistake::UndoRewritesTheEntry,
         Mistake::RefusedUndoCounts,
     ];
-    for mistake in mistakes {
+    for mistake in mistakes.into_iter().chain(of_points()) {
         let tally = run_against(Broken::new(mistake), Broken::new(mistake), options);
         assert_ne!(tally.differences(), 0, "{mistake:?} on both sides is not found");
     }
@@ -190,6 +200,57 @@ fn moves_are_held_against_what_remains() {
         Mistake::UndoClearsTheByte,
         Mistake::UndoTakesTheNextPlace,
         Mistake::UndoRewritesTheEntry,
+    ];
+    for mistake in mistakes {
+        let found =
+            |part| run_against(Broken::new(mistake), Broken::new(mistake), only(part)).differences() > 0;
+        assert!(parts().any(found), "{mistake:?} on both sides is not found");
+    }
+}
+
+/// Lists of moves with points alone find what is wrong with points from a fresh
+/// start, and with the take-backs that they rest on, even if both sides do it.
+#[test]
+fn points_are_held_against_the_moves() {
+    let parts = || (0..20).map(|place| POINTS_PART + 32 * place);
+    let only = |part| Options { seed: 18, only: Some(part), ..Options::default() };
+    for part in parts() {
+        let tally = run(Reference, only(part));
+        assert_eq!(tally.differences(), 0, "{:#?}", tally.described());
+        assert!(tally.jobs.named > 0);
+    }
+    let mistakes = [
+        Mistake::MovedPointStandsTwice,
+        Mistake::KnownNameNeedsAFreeSlot,
+        Mistake::LastFreeSlot,
+        Mistake::FullSlotsOverwritten,
+        Mistake::FreeNameTakesItsSlot,
+        Mistake::WordIsTheCount,
+        Mistake::SevenBytesOfAName,
+        Mistake::NameEndsAtZero,
+        Mistake::FreeNamesCompared,
+        Mistake::PointAtTheCountRefused,
+        Mistake::TakeBackDropsNothing,
+        Mistake::BackDropsNothing,
+        Mistake::DropsAtTheCount,
+        Mistake::DroppedNamesStay,
+        Mistake::DropClearsFreeNames,
+        Mistake::BackDropsItsPoint,
+        Mistake::FreeNameIsGoneBackTo,
+        Mistake::BackToHereRefused,
+        Mistake::BackFromNoStepRefused,
+        Mistake::BackStopsOneEarly,
+        Mistake::BackOneTooFar,
+        Mistake::BackClearsRepeats,
+        Mistake::BackRewritesEntries,
+        Mistake::BackAnswersThePlace,
+        Mistake::BackLeavesTheCount,
+        Mistake::BackPickAtTheChild,
+        Mistake::BackMessageAtTheEvent,
+        Mistake::RepeatUndoClears,
+        Mistake::MessageUndoAtTheEvent,
+        Mistake::PickUndoAtTheChild,
+        Mistake::UndoClearsTheByte,
     ];
     for mistake in mistakes {
         let found =

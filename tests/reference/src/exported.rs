@@ -13,7 +13,7 @@ use crate::refusal::Refusal;
 use crate::simulate::Outcome;
 use crate::site::Verdict;
 use crate::table::Table;
-use crate::{central as central_rule, guard as guards, journal as journals, pass as passes, plan};
+use crate::{central as central_rule, guard as guards, journal as journals, pass as passes, plan, points};
 use crate::{rewrite as rewriting, rule as rules, simulate as simulation, site as sites, text as texts};
 
 /// The number in a packed result.
@@ -112,6 +112,40 @@ pub fn undo(plan: &[u8], state: &mut [u8], entries: &[Entry], count: &mut usize)
     done(journals::undo(plan, state, entries, count))
 }
 
+/// Names the current place of a journal. 7, 20.
+#[inline(never)]
+pub fn point_name(name: &[u8], count: usize, names: &mut [u8], places: &mut [u64]) -> u32 {
+    done(points::name(name, count, names, places))
+}
+
+/// Takes the last kept step back, and drops the points past the new count. 1
+/// to 7, 16, 8, 9.
+#[inline(never)]
+pub fn point_undo(
+    plan: &[u8],
+    state: &mut [u8],
+    entries: &[Entry],
+    count: &mut usize,
+    names: &mut [u8],
+    places: &mut [u64],
+) -> u32 {
+    done(points::undo(plan, state, entries, count, names, places))
+}
+
+/// Goes back to the point of a name. 1 to 7, 19, 8, 9.
+#[inline(never)]
+pub fn point_back(
+    plan: &[u8],
+    name: &[u8],
+    state: &mut [u8],
+    entries: &[Entry],
+    count: &mut usize,
+    names: &mut [u8],
+    places: &mut [u64],
+) -> u32 {
+    done(points::back(plan, name, state, entries, count, names, places))
+}
+
 /// The end record of a simulation's state, by the common table. 1 to 7.
 #[inline(never)]
 pub fn record(plan: &[u8], state: &[u8], marks: &mut [u8], classes: &mut [u8]) -> u32 {
@@ -148,10 +182,10 @@ pub fn rehearse(text: &[u8], out: &mut [u8]) -> u32 {
     }
 }
 
-/// The version of these calls, a byte each for its three numbers: 1.1.0.
+/// The version of these calls, a byte each for its three numbers: 1.2.0.
 #[inline(never)]
 pub fn version() -> u32 {
-    (1 << 16) + (1 << 8)
+    (1 << 16) + (2 << 8)
 }
 
 /// The central rule; the value is 1 if the event was allowed. 1 to 9.

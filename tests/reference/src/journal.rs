@@ -40,18 +40,30 @@ pub fn keep(
 /// step, then 8 and 9 for the entry.
 pub fn undo(plan: &[u8], state: &mut [u8], entries: &[Entry], count: &mut usize) -> Result<(), Refusal> {
     let plan = open(plan, state)?;
-    let kept = entries.get(..*count).ok_or(Refusal::Length)?;
-    let &[code, node, site, changed] = kept.last().ok_or(Refusal::NoStep)?;
-    let step = Step::read(&plan, code.into(), node.into(), site.into())?;
-    if changed != 0 {
-        step.clear(&plan, state);
-    }
+    let last = kept(entries, *count)?.last().ok_or(Refusal::NoStep)?;
+    take_back(&plan, last, state)?;
     *count -= 1;
     Ok(())
 }
 
+/// Clears the bit of a step that was kept as this entry, if that says that it
+/// changed it: 8, 9.
+pub(crate) fn take_back(plan: &Plan, entry: &Entry, state: &mut [u8]) -> Result<(), Refusal> {
+    let step = Step::of_entry(plan, entry)?;
+    let [_, _, _, changed] = *entry;
+    if changed != 0 {
+        step.clear(plan, state);
+    }
+    Ok(())
+}
+
+/// The entries of the steps that are kept: 7 for a count above the entries.
+pub(crate) fn kept(entries: &[Entry], count: usize) -> Result<&[Entry], Refusal> {
+    entries.get(..count).ok_or(Refusal::Length)
+}
+
 /// A checked plan, with a state of its size.
-fn open<'p>(plan: &'p [u8], state: &[u8]) -> Result<Plan<'p>, Refusal> {
+pub(crate) fn open<'p>(plan: &'p [u8], state: &[u8]) -> Result<Plan<'p>, Refusal> {
     let plan = Plan::check(plan)?;
     if state.len() == plan.size() * plan.size() { Ok(plan) } else { Err(Refusal::Length) }
 }

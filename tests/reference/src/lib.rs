@@ -25,6 +25,7 @@ pub mod journal;
 pub mod mark;
 pub mod pass;
 pub mod plan;
+pub mod points;
 pub mod record;
 pub mod refusal;
 pub mod rewrite;

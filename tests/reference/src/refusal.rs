@@ -17,7 +17,7 @@ pub enum Refusal {
     Children = 5,
     /// The tree is too deep.
     Depth = 6,
-    /// A lent buffer has the wrong length.
+    /// A lent buffer has the wrong length, or points aren't right.
     Length = 7,
     /// A code, node or site that doesn't exist.
     Unknown = 8,
@@ -37,6 +37,10 @@ pub enum Refusal {
     Text = 15,
     /// There is no step to take back.
     NoStep = 16,
+    /// No point has the name.
+    UnknownPoint = 19,
+    /// All slots have points of other names.
+    NoFreePoint = 20,
     /// A table of classes that isn't one.
     Table = 21,
 }

@@ -1,6 +1,7 @@
 //! The simulation of a whole job: all sites' rows, one after another.
 
 use crate::event::{Event, number_in_plan};
+use crate::journal::Entry;
 use crate::plan::Plan;
 use crate::refusal::Refusal;
 use crate::site::{self, Verdict};
@@ -59,6 +60,11 @@ impl Step {
     pub(crate) fn read(plan: &Plan, code: u32, node: u32, site: u32) -> Result<Step, Refusal> {
         let hearer = if site == HAPPENS { None } else { Some(number_in_plan(plan, site)?) };
         Ok(Step { event: Event::read(plan, code, node)?, hearer })
+    }
+
+    /// Reads a step from an entry of a journal: 8, 9.
+    pub(crate) fn of_entry(plan: &Plan, &[code, node, site, _]: &Entry) -> Result<Step, Refusal> {
+        Step::read(plan, code.into(), node.into(), site.into())
     }
 
     /// What the event's site says, or 12 for a message.

@@ -38,6 +38,7 @@ fn exported_functions_do_not_allocate() {
     let answers = [0, 1, 1, 1, 1, 1];
     let (mut marks, mut notes, mut state, mut buffer) = ([0; 6], [0; 6], [0; 36], [0; 300]);
     let (mut kept, mut entries, mut count) = ([0; 36], [[0; 4]; 9], 0);
+    let (mut names, mut places) = ([0; 128], [0; 16]);
     let before = COUNT.get();
     let mut sum = exported::check(&plan) + exported::rewrite(&plan, &mut buffer[..12]);
     sum += exported::check_depths(&plan, &mut marks);
@@ -52,6 +53,11 @@ fn exported_functions_do_not_allocate() {
             sum += exported::keep(&plan, code, node, HAPPENS, &mut kept, &mut entries, &mut count);
             sum += exported::keep(&plan, code, node, 1, &mut kept, &mut entries, &mut count);
             sum += exported::undo(&plan, &mut kept, &entries, &mut count);
+            let name = [code as u8, node as u8, 0, 0, 0, 0, 0, 0];
+            sum += exported::point_name(&name, count, &mut names, &mut places);
+            sum += exported::point_undo(&plan, &mut kept, &entries, &mut count, &mut names, &mut places);
+            sum +=
+                exported::point_back(&plan, &name, &mut kept, &entries, &mut count, &mut names, &mut places);
             sum += exported::central(&plan, code, node, &mut marks, &mut notes);
         }
     }

@@ -75,6 +75,8 @@ fn plan_refusals_come_first_everywhere() {
                 assert_eq!(simulate(&plan, code, node, 400, &mut lent), expected);
                 assert_eq!(keep(&plan, code, node, 0, &mut lent, &mut [], &mut 1), expected);
                 assert_eq!(undo(&plan, &mut lent, &[], &mut 0), expected);
+                assert_eq!(point_undo(&plan, &mut lent, &[], &mut 0, &mut [], &mut []), expected);
+                assert_eq!(point_back(&plan, &[], &mut lent, &[], &mut 0, &mut [], &mut []), expected);
                 assert_eq!(pass(&plan, &[1], &mut lent), expected);
                 assert_eq!(record(&plan, &[1], &mut lent, &mut other), expected);
                 assert_eq!(record_by(&plan, &COMMON_TABLE, &[1], &mut lent, &mut other), expected);

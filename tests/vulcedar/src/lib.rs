@@ -120,6 +120,80 @@ pub fn undo(plan: &[u8], state: &mut [u8], entries: &[Entry], count: &mut usize)
     }
 }
 
+/// Names the current place of a journal. Of the names each slot has eight
+/// bytes, of the places one word.
+pub fn point_name(name: &[u8], count: usize, names: &mut [u8], places: &mut [u64]) -> u32 {
+    // SAFETY: as for `rewrite`.
+    unsafe {
+        raw::vulcedar_point_name(
+            name.as_ptr(),
+            name.len(),
+            count,
+            names.as_mut_ptr(),
+            names.len(),
+            places.as_mut_ptr(),
+            places.len(),
+        )
+    }
+}
+
+/// Takes the last kept step back, and drops the points past the new count.
+pub fn point_undo(
+    plan: &[u8],
+    state: &mut [u8],
+    entries: &[Entry],
+    count: &mut usize,
+    names: &mut [u8],
+    places: &mut [u64],
+) -> u32 {
+    // SAFETY: as for `keep`.
+    unsafe {
+        raw::vulcedar_point_undo(
+            plan.as_ptr(),
+            plan.len(),
+            state.as_mut_ptr(),
+            state.len(),
+            entries.as_ptr(),
+            entries.len(),
+            count,
+            names.as_mut_ptr(),
+            names.len(),
+            places.as_mut_ptr(),
+            places.len(),
+        )
+    }
+}
+
+/// Goes back to the point of a name.
+pub fn point_back(
+    plan: &[u8],
+    name: &[u8],
+    state: &mut [u8],
+    entries: &[Entry],
+    count: &mut usize,
+    names: &mut [u8],
+    places: &mut [u64],
+) -> u32 {
+    // SAFETY: as for `keep`.
+    unsafe {
+        raw::vulcedar_point_back(
+            plan.as_ptr(),
+            plan.len(),
+            name.as_ptr(),
+            name.len(),
+            state.as_mut_ptr(),
+            state.len(),
+            entries.as_ptr(),
+            entries.len(),
+            count,
+            names.as_mut_ptr(),
+            names.len(),
+            places.as_mut_ptr(),
+            places.len(),
+        )
+    }
+}
+
 /// The end record of a simulation's state.
 pub fn record(plan: &[u8], state: &[u8], marks: &mut [u8], classes: &mut [u8]) -> u32 {
     // SAFETY: as for `rewrite`.

@@ -86,6 +86,46 @@ unsafe extern "C" {
         count: *mut usize,
     ) -> u32;
 
+    pub fn vulcedar_point_name(
+        name: *const u8,
+        name_length: usize,
+        count: usize,
+        names: *mut u8,
+        names_length: usize,
+        places: *mut u64,
+        places_length: usize,
+    ) -> u32;
+
+    pub fn vulcedar_point_undo(
+        plan: *const u8,
+        plan_length: usize,
+        state: *mut u8,
+        state_length: usize,
+        entries: *const Entry,
+        entries_length: usize,
+        count: *mut usize,
+        names: *mut u8,
+        names_length: usize,
+        places: *mut u64,
+        places_length: usize,
+    ) -> u32;
+
+    pub fn vulcedar_point_back(
+        plan: *const u8,
+        plan_length: usize,
+        name: *const u8,
+        name_length: usize,
+        state: *mut u8,
+        state_length: usize,
+        entries: *const Entry,
+        entries_length: usize,
+        count: *mut usize,
+        names: *mut u8,
+        names_length: usize,
+        places: *mut u64,
+        places_length: usize,
+    ) -> u32;
+
     pub fn vulcedar_record(
         plan: *const u8,
         plan_length: usize,
