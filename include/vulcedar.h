@@ -32,7 +32,7 @@
  * vulcedar_points has both, and zeros are no points. In places, 0 is a free slot, and n + 1 a point behind the first n steps.
  * The calls with points refuse with 7 other lengths than 128 bytes and 16 places, a point above the count, and two points of
  * one name. While nothing but vulcedar_keep, vulcedar_point_name, vulcedar_point_undo and vulcedar_point_back writes what is
- * lent, there is no such point. vulcedar_undo knows no points and leaves those that it passes above the count: in a journal
+ * lent, there is no such point; but a host may free a slot by storing 0 as its place. vulcedar_undo knows no points and leaves those that it passes above the count: in a journal
  * with points, take back with vulcedar_point_undo.
  *
  * RECORDS. Every node's mark (enum vulcedar_mark) and class (enum vulcedar_class, how long its work is kept). A block has
@@ -294,9 +294,9 @@ uint32_t vulcedar_point_undo(const uint8_t *plan, size_t plan_len, uint8_t *stat
 /*
  * Goes back to a point: takes back the last step, and again, until *count is the point's place, and drops the points that
  * are above it. The point itself stays. If it is at *count already, nothing is taken back and the call passes. The result
- * is the number alone: as of vulcedar_point_undo, where 7 also says that name_len is not VULCEDAR_NAME_LENGTH; but not 16;
- * then 19 if no point has the name; then the first of 8 and 9 that is met in an entry on the way, and then nothing is taken
- * back at all.
+ * is the number alone: 1 to 7 as of vulcedar_point_undo, where 7 also says that name_len is not VULCEDAR_NAME_LENGTH; then 19
+ * if no point has the name; then the first of 8 and 9 that is met, from the last entry on, and then nothing is taken back at
+ * all. It is never 16.
  */
 uint32_t vulcedar_point_back(const uint8_t *plan, size_t plan_len, const uint8_t *name, size_t name_len, uint8_t *state,
                              size_t state_len, const vulcedar_entry *entries, size_t entries_len, size_t *count,

@@ -1,19 +1,19 @@
 -- What dropping leaves (rule M4): a slot whose point is not past has its name and its word, and every other has no point; so points stay right, and a name
 -- keeps its point if that is not past (rules M8 and M10). Assumes nothing.
-use mathlib.Core.Path.{_≡_, refl, sym, _∙_, ap}
-use mathlib.Core.Bool.{Bool, true, false, cond, _&&_}
+use mathlib.Core.Path.{_≡_, sym, _∙_, ap}
+use mathlib.Core.Bool.{true, false, cond}
 use mathlib.Core.List.{List}
-use Prim.Native.Nat.{ℕ, suc, _+_, _*_, _-_, _/_, _≤_, _<_}
+use Prim.Native.Nat.{ℕ, suc, _+_, _*_, _-_, _/_, _<_}
 use native.Mathlib.Omega.{arith}
 use borrow.Author.Tests.{ltb-true, ltb-false, le-ltb}
 use lib.Dec.{ltb}
 use lib.ListN.{length, getD}
-use Rattle.lists.proofs.Logic.{cases, decided, no-bool, and-left, and-right, and-join, clash}
+use Rattle.lists.proofs.Logic.{cases, decided, no-bool, clash}
 use Rattle.lists.proofs.Table.{table-at, table-length}
-use Rattle.points.specs.Points.{nameAt, inUse, placeAt, sameName, hasName, slotOf, isPast, dropped}
+use Rattle.points.specs.Points.{nameAt, inUse, hasName, slotOf, isPast, dropped}
 use Rattle.points.specs.Claim.{pointOf, PointsRight}
 use Rattle.points.proofs.FirstLaws.{slot-has, slot-none}
-use Rattle.points.proofs.NameLaws.{name-same}
+use Rattle.points.proofs.NameLaws.{name-same, has-used}
 use Rattle.points.proofs.RightLaws.{used-word, slot-is, point-is, point-none}
 
 module _ (n : ℕ) (names places : List ℕ) where
@@ -57,8 +57,8 @@ module _ (n : ℕ) (names places : List ℕ) where
       has-kept name = rw (name-kept, word-kept)
 
   module _ (k : ℕ) (r : PointsRight names places k) where
-    pub dropped-right : PointsRight names′ places′ n
-    dropped-right = record {
+    pub dropped-keeps : PointsRight names′ places′ n
+    dropped-keeps = record {
       names-long = names-length;
       places-long = places-length;
       within = λ i l u. let f = used-kept i l u in omega (arith, word-kept i l f, ltb-false (suc n) (getD places i 0) f);
@@ -72,14 +72,14 @@ module _ (n : ℕ) (names places : List ℕ) where
       -- no slot that stays has the name
       point-gone : ((i : ℕ) → i < 16 → isPast places n i ≡ false → hasName names places name i ≡ false) → pointOf names′ places′ name ≡ 0
       point-gone h = point-none names′ places′ name places-length (λ i l. no-bool (hasName names′ places′ name i) (λ t.
-          let f = used-kept i l (and-left (inUse places′ i) (sameName (nameAt names′ i) name) t) in
+          let f = used-kept i l (has-used names′ places′ name i t) in
           clash (hasName names places name i) (sym (has-kept i l f (r .names-long) name) ∙ t) (h i l f)))
 
       point-some : (s : ℕ) → s < 16 → hasName names places name s ≡ true → pointOf names′ places′ name ≡ cond (isPast places n s) 0 (getD places s 0)
       point-some s l h = cases (decided (isPast places n s))
           (λ e. rw e (point-gone (λ i m f. no-bool (hasName names places name i) (λ t.
           clash (isPast places n i) (rw (sym (slot-is names places (r .apart) name s l h) ∙ slot-is names places (r .apart) name i m t) at e) f))))
-          (λ e. rw e (point-is names′ places′ (dropped-right .apart) name s l (has-kept s l e (r .names-long) name ∙ h) ∙ word-kept s l e))
+          (λ e. rw e (point-is names′ places′ (dropped-keeps .apart) name s l (has-kept s l e (r .names-long) name ∙ h) ∙ word-kept s l e))
 
       pub dropped-point : pointOf names′ places′ name ≡ cond (ltb (suc n) (pointOf names places name)) 0 (pointOf names places name)
       dropped-point = cases (decided (ltb (slotOf names places name) 16))

@@ -16,7 +16,7 @@ use Rattle.points.specs.Claim.{pointOf, PointsRight}
 use Rattle.points.proofs.NamingLaws.{name-known, name-new, name-full}
 use Rattle.points.proofs.FirstLaws.{slot-none, free-none, free-out}
 use Rattle.points.proofs.RightLaws.{fit-right, point-none, none-slot}
-use Rattle.points.proofs.PlacedLaws.{Placed, placed-known, placed-new, placed-right, placed-there, placed-others}
+use Rattle.points.proofs.PlacedLaws.{Placed, placed-known, placed-new, placed-keeps, placed-there, placed-others}
 
 module _ (name : List ℕ) (k : ℕ) (names places : List ℕ) where
   data Ended (r : Naming) : Type 0 where
@@ -73,7 +73,7 @@ module _ (name : List ℕ) (k : ℕ) (names places : List ℕ) where
   kept : (r : Naming) → Ended r → PointsRight names places k → PointsRight (r .left .names) (r .left .places) k
   kept r (unfit h e) ok = rw e ok
   kept r (filled a n e) ok = rw e ok
-  kept r (placed s p e) ok = placed-right name k names places (r .left .names) (r .left .places) s p
+  kept r (placed s p e) ok = placed-keeps name k names places (r .left .names) (r .left .places) s p
 
   module _ (fits : nameFits name k names places ≡ true) where
     full : (r : Naming) → Ended r → r .number ≡ 20 → ((i : ℕ) → i < 16 → inUse places i ≡ true) × (pointOf names places name ≡ 0)
@@ -95,8 +95,8 @@ module _ (name : List ℕ) (k : ℕ) (names places : List ℕ) where
     pub naming-passes : (nameOf name k names places .number ≡ 20 → ⊥) → nameOf name k names places .number ≡ 0
     naming-passes = else-0 (nameOf name k names places) ended
 
-  pub naming-right : PointsRight names places k → PointsRight (nameOf name k names places .left .names) (nameOf name k names places .left .places) k
-  naming-right = kept (nameOf name k names places) ended
+  pub naming-keeps : PointsRight names places k → PointsRight (nameOf name k names places .left .names) (nameOf name k names places .left .places) k
+  naming-keeps = kept (nameOf name k names places) ended
 
   module _ (z : nameOf name k names places .number ≡ 0) where
     pub naming-there : pointOf (nameOf name k names places .left .names) (nameOf name k names places .left .places) name ≡ suc k

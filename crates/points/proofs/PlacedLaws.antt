@@ -1,7 +1,7 @@
 -- What a naming that passed leaves (rule M3): one slot has the name and a point at the count, no other slot has it, and all others are as they were;
 -- so points stay right, and every other name has the point that it had (rules M8 and M10). Assumes nothing.
-use mathlib.Core.Path.{_≡_, refl, sym, _∙_, ap}
-use mathlib.Core.Bool.{Bool, true, false, _&&_}
+use mathlib.Core.Path.{_≡_, refl, sym, _∙_}
+use mathlib.Core.Bool.{true, false}
 use mathlib.Core.Logic.{inl, inr}
 use mathlib.Core.List.{List}
 use Prim.Native.Nat.{ℕ, suc, _+_, _*_, _-_, _≤_, _<_}
@@ -10,13 +10,13 @@ use borrow.Author.Tests.{eqb-true, eqb-false, ltb-true, ltb-false}
 use lib.Dec.{eqb, ltb}
 use lib.ListN.{length, getD, set, length-set}
 use lib.Seq.{sets, length-sets, getD-set-same, getD-set-other}
-use Rattle.lists.proofs.Logic.{cases, decided, no-bool, and-left, and-right, and-join, clash}
-use Rattle.points.specs.Points.{nameAt, inUse, placeAt, sameName, hasName, slotOf, freeSlot}
+use Rattle.lists.proofs.Logic.{cases, decided, no-bool, clash}
+use Rattle.points.specs.Points.{nameAt, inUse, sameName, hasName, slotOf, freeSlot}
 use Rattle.points.specs.Claim.{pointOf, PointsRight}
 use Rattle.points.proofs.PutLaws.{sets-other, sets-same}
 use Rattle.points.proofs.FirstLaws.{slot-has, slot-none, slot-same, free-found}
-use Rattle.points.proofs.NameLaws.{same-self, same-back, same-on, name-is, name-same}
-use Rattle.points.proofs.RightLaws.{used-word, word-used, slot-is, point-is}
+use Rattle.points.proofs.NameLaws.{same-self, same-back, same-on, name-is, name-same, has-same, has-by, has-no-other}
+use Rattle.points.proofs.RightLaws.{word-used, slot-is, point-is}
 
 module _ (name : List ℕ) (k : ℕ) (names places : List ℕ) where
   pub record Placed (names′ places′ : List ℕ) (s : ℕ) : Type 0 where
@@ -30,13 +30,13 @@ module _ (name : List ℕ) (k : ℕ) (names places : List ℕ) where
     pub places-stay : (i : ℕ) → (i ≡ s → ⊥) → getD places′ i 0 ≡ getD places i 0
     -- before, no other slot had the name, and this one had no other
     pub alone : (i : ℕ) → i < 16 → (i ≡ s → ⊥) → hasName names places name i ≡ false
-    pub unlost : (other : List ℕ) → sameName other name ≡ false → hasName names places other s ≡ false
+    pub no-other : (other : List ℕ) → sameName other name ≡ false → hasName names places other s ≡ false
 
   -- a known name, in its slot
   pub placed-known : PointsRight names places k → (s : ℕ) → s ≡ slotOf names places name → s < 16 → Placed names (set places s (suc k)) s
   placed-known r s is l =
       let has : hasName names places name s ≡ true = rw is (slot-has names places name (omega arith)) in
-      let same : sameName (nameAt names s) name ≡ true = and-right (inUse places s) (sameName (nameAt names s) name) has in
+      let same : sameName (nameAt names s) name ≡ true = has-same names places name s has in
       let long = r .places-long in
       record {
         right = r;
@@ -48,8 +48,7 @@ module _ (name : List ℕ) (k : ℕ) (names places : List ℕ) where
         names-stay = λ i m n. refl;
         places-stay = λ i n. getD-set-other places s i (suc k) 0 n;
         alone = λ i m n. no-bool (hasName names places name i) (λ h. n (sym (slot-is names places (r .apart) name i m h) ∙ sym is));
-        unlost = λ other d. no-bool (hasName names places other s) (λ h.
-            clash (sameName other name) (same-on other (nameAt names s) name (same-back (nameAt names s) other (and-right (inUse places s) (sameName (nameAt names s) other) h)) same) d);
+        no-other = λ other d. has-no-other names places name other s same d;
       }
 
   -- a new one, in the first free slot
@@ -73,18 +72,13 @@ module _ (name : List ℕ) (k : ℕ) (names places : List ℕ) where
             (λ e. let ge = ltb-false i s e in inr (omega arith))));
         places-stay = λ i n. getD-set-other places s i (suc k) 0 n;
         alone = λ i m n. slot-none names places name new i m;
-        unlost = λ other d. rw free;
+        no-other = λ other d. rw free;
       }
 
   module _ (names′ places′ : List ℕ) (s : ℕ) (p : Placed names′ places′ s) where
-    -- the slot has this name and no other, and no other slot has it
+    -- the slot has the name, the others have those that they had, and so none of them has this one
     own-has : hasName names′ places′ name s ≡ true
-    own-has = let w = p .own-word in and-join (inUse places′ s) (sameName (nameAt names′ s) name) (word-used places′ s (λ e. omega arith)) (p .own-name)
-
-    own-no-other : (other : List ℕ) → sameName other name ≡ false → hasName names′ places′ other s ≡ false
-    own-no-other other d = no-bool (hasName names′ places′ other s) (λ h.
-        clash (sameName other name)
-        (same-on other (nameAt names′ s) name (same-back (nameAt names′ s) other (and-right (inUse places′ s) (sameName (nameAt names′ s) other) h)) (p .own-name)) d)
+    own-has = let w = p .own-word in has-by names′ places′ name s (word-used places′ s (λ e. omega arith)) (p .own-name)
 
     has-stay : (i : ℕ) → i < 16 → (i ≡ s → ⊥) → (other : List ℕ) → hasName names′ places′ other i ≡ hasName names places other i
     has-stay i l n other = rw (p .names-stay i l n, p .places-stay i n)
@@ -93,11 +87,11 @@ module _ (name : List ℕ) (k : ℕ) (names places : List ℕ) where
     own-only i l u t = cases (decided (eqb i s)) (eqb-true i s) (λ e.
         let n = eqb-false i s e in
         clash (hasName names places name i)
-        (sym (has-stay i l n name) ∙ and-join (inUse places′ i) (sameName (nameAt names′ i) name) u (same-on (nameAt names′ i) (nameAt names′ s) name t (p .own-name))) (p .alone i l n))
+        (sym (has-stay i l n name) ∙ has-by names′ places′ name i u (same-on (nameAt names′ i) (nameAt names′ s) name t (p .own-name))) (p .alone i l n))
 
     -- M8: points stay right
-    pub placed-right : PointsRight names′ places′ k
-    placed-right = let r = p .right in record {
+    pub placed-keeps : PointsRight names′ places′ k
+    placed-keeps = let r = p .right in record {
       names-long = p .names-long;
       places-long = p .places-long;
       within = λ i l u. cases (decided (eqb i s))
@@ -113,13 +107,13 @@ module _ (name : List ℕ) (k : ℕ) (names places : List ℕ) where
 
     -- M10: the name's point is at the count, and every other name has the point that it had
     pub placed-there : pointOf names′ places′ name ≡ suc k
-    placed-there = point-is names′ places′ (placed-right .apart) name s (p .slot) own-has ∙ p .own-word
+    placed-there = point-is names′ places′ (placed-keeps .apart) name s (p .slot) own-has ∙ p .own-word
 
     pub placed-others : (other : List ℕ) → sameName other name ≡ false → pointOf names′ places′ other ≡ pointOf names places other
     unfolding pointOf
     placed-others other d =
         let t : ℕ = slotOf names places other in
         let same : slotOf names′ places′ other ≡ t = slot-same names places other names′ places′ (λ i l. cases (decided (eqb i s))
-        (λ e. let z = eqb-true i s e in rw z (own-no-other other d ∙ sym (p .unlost other d)))
+        (λ e. let z = eqb-true i s e in rw z (has-no-other names′ places′ name other s (p .own-name) d ∙ sym (p .no-other other d)))
         (λ e. has-stay i l (eqb-false i s e) other)) in
-        rw same (p .places-stay t (λ e. let l = p .slot in clash (hasName names places other s) (rw e at (slot-has names places other (omega arith))) (p .unlost other d)))
+        rw same (p .places-stay t (λ e. let l = p .slot in clash (hasName names places other s) (rw e at (slot-has names places other (omega arith))) (p .no-other other d)))

@@ -2,13 +2,11 @@
 use mathlib.Core.Path.{_≡_, refl, sym, _∙_, ap}
 use mathlib.Core.List.{List, [], _∷_}
 use mathlib.Core.Logic.{⊎-elim, _⊎_, inl, inr}
-use Prim.Native.Nat.{ℕ, zero, suc, _+_, _*_, _≤_, _<_}
-use native.Mathlib.Nat.{add-zero, add-suc}
-use native.Mathlib.Numerals.{add-one}
+use Prim.Native.Nat.{ℕ, zero, suc, _+_, _≤_, _<_}
+use native.Mathlib.Nat.{add-zero}
 use native.Mathlib.Omega.{arith}
 use lib.ListN.{length, getD, set, drop, length-set}
-use lib.Seq.{sets, drop-length, drop-cons, getD-set-same, getD-set-other}
-use Rattle.lists.specs.Put.{Put}
+use lib.Seq.{sets, drop-length, getD-set-same, getD-set-other}
 use Rattle.lists.proofs.PutLaws.{Left, left-all, left-none, left-put, put-one, drop-turn}
 
 module _ (name names₀ : List ℕ) (w : ℕ) where

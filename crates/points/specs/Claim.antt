@@ -6,7 +6,7 @@ use mathlib.Core.Logic.{_↔_}
 use mathlib.Core.List.{List}
 use Prim.Native.Nat.{ℕ, suc, _≤_, _<_}
 use lib.Dec.{ltb}
-use lib.ListN.{length, getD}
+use lib.ListN.{length, getD, set, replicate}
 use Rattle.points.specs.Points.{nameAt, inUse, placeAt, sameName, slotOf, pointsFit, nameFits, nameOf, dropped}
 
 -- M10: the word of a name's point: 0 where the name has none
@@ -40,8 +40,10 @@ pub record PointsClaim : Type 0 where
   -- M10: of the points that are dropped, each name keeps its own if it is not past, and loses it otherwise
   pub drops : (names places : List ℕ) (k : ℕ) → pointsFit names places k ≡ true → (n : ℕ) (name : List ℕ) →
       pointOf (dropped n names places .names) (dropped n names places .places) name ≡ cond (ltb (suc n) (pointOf names places name)) 0 (pointOf names places name)
-  -- M8: naming, dropping and a count that grows keep points right
+  -- M8: sixteen free slots are right, with names of any bytes; and naming, dropping, a slot that the caller frees and a count that grows keep points right
+  pub fresh : (names : List ℕ) (k : ℕ) → length names ≡ 128 → PointsRight names (replicate 16 0) k
   pub naming-keeps : (name : List ℕ) (k : ℕ) (names places : List ℕ) → PointsRight names places k →
       PointsRight (nameOf name k names places .left .names) (nameOf name k names places .left .places) k
   pub dropping-keeps : (names places : List ℕ) (k n : ℕ) → PointsRight names places k → PointsRight (dropped n names places .names) (dropped n names places .places) n
+  pub freeing-keeps : (names places : List ℕ) (k i : ℕ) → PointsRight names places k → PointsRight names (set places i 0) k
   pub growing-keeps : (names places : List ℕ) (k n : ℕ) → k ≤ n → PointsRight names places k → PointsRight names places n

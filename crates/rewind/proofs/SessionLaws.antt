@@ -1,13 +1,13 @@
 -- Every list of moves with points (rules M7 to M9): the journal holds steps that passed from a fresh start, and the points are right. Assumes nothing.
-use mathlib.Core.Path.{_≡_, refl, sym, _∙_, ap, subst}
-use mathlib.Core.Bool.{true, _&&_}
+use mathlib.Core.Path.{_≡_, refl, _∙_, ap}
+use mathlib.Core.Bool.{true}
 use mathlib.Core.List.{List, [], _∷_}
 use Prim.Native.Nat.{ℕ, zero, suc, _*_, _-_, _≤_, _<_}
 use native.Mathlib.Omega.{arith}
-use lib.Dec.{eqb, leb, ltb}
-use lib.ListN.{length, drop, replicate, length-drop, getD-replicate}
+use lib.Dec.{eqb, ltb}
+use lib.ListN.{length, drop, length-drop}
 use lib.Seq.{length-take-le}
-use borrow.Author.Tests.{eq-eqb, eqb-true, eqb-false, le-leb, lt-ltb, not-false}
+use borrow.Author.Tests.{eq-eqb, eqb-true, eqb-false, le-leb, lt-ltb}
 use Rattle.lists.proofs.Logic.{cases, decided, and-join}
 use Rattle.plan.specs.Plan.{size}
 use Rattle.plan.specs.Check.{Accepted}
@@ -20,12 +20,12 @@ use Rattle.journal.specs.declared.Entry.{Entry}
 use Rattle.journal.specs.Journal.{Undone, undone, undoOf, keepFits, keptIf, keepOf, stepOn}
 use Rattle.journal.specs.Session.{lent, undoneLent, keep, moved}
 use Rattle.journal.proofs.SessionLaws.{stepsTo, before, Sound, begun-sound, keep-sound, undo-is, sound-back, undo-sound, sound-well}
-use Rattle.points.specs.Points.{points, nameAt, inUse, placeAt, slotOf, nameOf, dropped, pointsFit}
+use Rattle.points.specs.Points.{points, nameAt, inUse, placeAt, slotOf, dropped}
 use Rattle.points.specs.Claim.{PointsRight}
-use Rattle.points.proofs.RightLaws.{has-own, slot-is, used-word}
+use Rattle.points.proofs.RightLaws.{own-slot}
 use Rattle.points.proofs.Main.{points-claim}
 use Rattle.rewind.specs.Return.{returned, returnedBy, pointUndoFits, pointUndoOf, backOf, backFits, pointBackOf}
-use Rattle.rewind.specs.Session.{PointMove, toKeep, toUndo, toName, toReturn, Held, held, returnedHeld, freshHeld, undoHeld, backHeld, pointMoved, pointSession, HeldWell, Returns}
+use Rattle.rewind.specs.Session.{PointMove, toKeep, toUndo, toName, toFree, toReturn, Held, held, returnedHeld, freshHeld, pointMoved, pointSession, HeldWell, Returns}
 use Rattle.rewind.proofs.CallLaws.{returned-done, returned-left}
 
 -- a kept step never counts down
@@ -34,15 +34,6 @@ unfolding keepOf keptIf
 keep-grows p lay row st es k code node site = cases (decided (eqb (keepFits p lay row st es k) 0))
     (λ z. cases (decided (eqb (verdictNumber (stepOn p lay row st code node site .verdict)) 0)) (λ v. rw (z, v) (omega arith)) (λ v. rw (z, v) (omega arith)))
     (λ z. rw z (omega arith))
-
--- sixteen free slots are right
-free-right : (names : List ℕ) → length names ≡ 128 → PointsRight names (replicate 16 0) 0
-free-right names long = record {
-  names-long = long;
-  places-long = refl;
-  within = λ i l u. absurd (used-word (replicate 16 0) i u (getD-replicate 16 i 0 0 l));
-  apart = λ i j l m u. absurd (used-word (replicate 16 0) i u (getD-replicate 16 i 0 0 l));
-}
 
 module _ (p : List ℕ) (lay : Layout) (row : ℕ → ℕ) where
   -- all that is lent is as the moves leave it
@@ -110,16 +101,13 @@ module _ (p : List ℕ) (lay : Layout) (row : ℕ → ℕ) where
         unfolding backFits stateFits
         fits = fit-exact p _ .none .1 (ok, and-join _ _ (and-join _ _ (and-join _ _ (eq-eqb (length (nameAt names i)) 8 long) (eq-eqb (length st) (lay .rows * size p) state-long)) (le-leb k (length es) (sound .inside))) (points-claim .exact names places k .1 right))
 
-        own-slot : slotOf names places (nameAt names i) ≡ i
-        own-slot = slot-is names places (right .apart) (nameAt names i) i l (has-own names places i used)
-
         returns-there : pointBackOf p lay row (nameAt names i) st es k names places ≡ returned 0 (before p lay row es place) place (dropped place names places)
         unfolding pointBackOf
         returns-there =
             let w : place ≤ k = right .within i l used in
             let e : k - (k - place) ≡ place = omega arith in
             let b : backOf p lay row (k - place) st es k ≡ undone 0 (before p lay row es place) place = back-is (k - place) st es k sound (omega arith) ∙ rw e in
-            rw (fits, own-slot, lt-ltb i 16 l, b) (returned-done (undone 0 (before p lay row es place) place) st k names places refl)
+            rw (fits, own-slot names places (right .apart) i l used, lt-ltb i 16 l, b) (returned-done (undone 0 (before p lay row es place) place) st k names places refl)
 
     -- LISTS OF MOVES
     moved-right : (h : Held) → Right h → (m : PointMove) → Right (pointMoved p lay row h m)
@@ -127,6 +115,7 @@ module _ (p : List ℕ) (lay : Layout) (row : ℕ → ℕ) where
     moved-right h r (toKeep code node site) = keep-right (h .journal .state) (h .journal .entries) (h .journal .count) (h .marked .names) (h .marked .places) (r .sound) (r .right) code node site
     moved-right h r toUndo = undo-right (h .journal .state) (h .journal .entries) (h .journal .count) (h .marked .names) (h .marked .places) (r .sound) (r .right)
     moved-right h r (toName name) = record { sound = r .sound; right = points-claim .naming-keeps name (h .journal .count) (h .marked .names) (h .marked .places) (r .right) }
+    moved-right h r (toFree i) = record { sound = r .sound; right = points-claim .freeing-keeps (h .marked .names) (h .marked .places) (h .journal .count) i (r .right) }
     moved-right h r (toReturn name) = back-right (h .journal .state) (h .journal .entries) (h .journal .count) (h .marked .names) (h .marked .places) (r .sound) (r .right) name
 
     session-right : (ms : List PointMove) (h : Held) → Right h → Right (pointSession p lay row h ms)
@@ -135,7 +124,7 @@ module _ (p : List ℕ) (lay : Layout) (row : ℕ → ℕ) where
     session-right (m ∷ ms) h r = session-right ms (pointMoved p lay row h m) (moved-right h r m)
 
     fresh-right : (es : List Entry) (names : List ℕ) → length names ≡ 128 → Right (freshHeld p lay es names)
-    fresh-right es names long = record { sound = begun-sound p lay row es; right = free-right names long }
+    fresh-right es names long = record { sound = begun-sound p lay row es; right = points-claim .fresh names 0 long }
 
     module _ (es : List Entry) (names : List ℕ) (long : length names ≡ 128) (ms : List PointMove) where
       abbrev after : Held

@@ -5,7 +5,7 @@ use mathlib.Core.Bool.{true, cond}
 use mathlib.Core.List.{List, [], _∷_, map}
 use Prim.Native.Nat.{ℕ, suc, _<_}
 use lib.Dec.{ltb}
-use lib.ListN.{length, take, replicate}
+use lib.ListN.{length, take, set, replicate}
 use Rattle.plan.specs.Check.{Accepted}
 use Rattle.event.specs.Site.{Layout, own, Housed}
 use Rattle.job.specs.Simulation.{replay}
@@ -16,11 +16,12 @@ use Rattle.points.specs.Points.{Points, points, nameAt, inUse, placeAt, pointsF
 use Rattle.points.specs.Claim.{pointOf, PointsRight}
 use Rattle.rewind.specs.Return.{Returned, returned, pointUndoOf, pointBackOf}
 
--- M7: a step to be kept, by code, node and site; a take-back; the current place named; a going back to a name
+-- M7: a step to be kept, by code, node and site; a take-back; the current place named; a slot freed by the caller; a going back to a name
 pub data PointMove : Type 0 where
   toKeep : ℕ → ℕ → ℕ → PointMove
   toUndo : PointMove
   toName : List ℕ → PointMove
+  toFree : ℕ → PointMove
   toReturn : List ℕ → PointMove
 
 -- M7: all that is lent
@@ -51,6 +52,7 @@ module _ (p : List ℕ) (lay : Layout) (row : ℕ → ℕ) where
   pointMoved h (toKeep code node site) = held (keptLent (keepOf p lay row (h .journal .state) (h .journal .entries) (h .journal .count) code node site)) (h .marked)
   pointMoved h toUndo = returnedHeld (h .journal .entries) (undoHeld h)
   pointMoved h (toName name) = held (h .journal) (nameOf name (h .journal .count) (h .marked .names) (h .marked .places) .left)
+  pointMoved h (toFree i) = held (h .journal) (points (h .marked .names) (set (h .marked .places) i 0))
   pointMoved h (toReturn name) = returnedHeld (h .journal .entries) (backHeld name h)
 
   unfoldable pub pointSession : Held → List PointMove → Held

@@ -30,7 +30,7 @@ slice-aggregate-put-name : tie.Need-slice-aggregate-put-name Inv-loop μ-loop
 slice-aggregate-put-name c = search needs
 
 put-name-requires : tie.Need-put-name-requires Inv-loop μ-loop
-put-name-requires c κs = (c .before .before .before .before .before .before .loop .inv .names-long, c .before .before .before .before .before .loop-test .taken, refl)
+put-name-requires c κs = (c .before .before .before .before .before .before .loop .inv .names-long, omega (arith, c .before .before .before .before .before .loop-test .taken), refl)
 
 mul-places : tie.Need-mul-places Inv-loop μ-loop
 mul-places c = search needs

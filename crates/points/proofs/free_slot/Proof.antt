@@ -5,8 +5,6 @@ use mathlib.Core.List.{List}
 use Prim.Native.Nat.{ℕ, _-_, _≤_}
 use native.Mathlib.Omega.{arith}
 use borrow.Author.Tests.{eq-eqb, ne-eqb}
-use lib.Dec.{eqb}
-use lib.ListN.{getD}
 use Rattle.points.specs.Points.{inUse, firstSlot, freeSlot}
 use Rattle.points.proofs.SlotLaws.{slot-found, slot-on, slot-end}
 use borrow.Author.Needs.{needs}

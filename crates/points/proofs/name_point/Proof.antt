@@ -54,7 +54,7 @@ same-length-4 : tie.Need-same-length-4
 same-length-4 c = search needs
 
 returns-4 : tie.Need-returns-4
-returns-4 c = name-known _ _ _ _ (fits (c .before .before .before .before)) _ (c .before .slot-of .ensures .0) (c .if4 .taken)
+returns-4 c = name-known _ _ _ _ (fits (c .before .before .before .before)) _ (c .before .slot-of .ensures .0) (omega (arith, c .if4 .taken))
 
 free-slot-requires : tie.Need-free-slot-requires
 free-slot-requires c κs = longs (c .before .before .before .before .before) .1

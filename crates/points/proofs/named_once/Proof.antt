@@ -6,8 +6,6 @@ use mathlib.Core.List.{List}
 use Prim.Native.Nat.{ℕ, _-_, _≤_}
 use native.Mathlib.Omega.{arith}
 use lib.Dec.{eqb}
-use lib.ListN.{length}
-use lib.Seq.{length-take-le}
 use Rattle.lists.specs.Seq.{allBelow}
 use Rattle.lists.proofs.Below.{below-more, below-stop, below-end}
 use Rattle.points.specs.Points.{inUse, nameAt, slotOf, namedOnce}

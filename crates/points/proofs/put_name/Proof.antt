@@ -1,8 +1,7 @@
 -- The bytes of the name from j on are still to be written. Assumes nothing.
-use mathlib.Core.Path.{_≡_, refl}
-use Prim.Native.Nat.{ℕ, _+_, _*_, _-_, _≤_}
+use Prim.Native.Nat.{_+_, _*_, _-_, _≤_}
 use native.Mathlib.Omega.{arith}
-use lib.ListN.{length, drop}
+use lib.ListN.{drop}
 use Rattle.lists.proofs.PutLaws.{Left}
 use Rattle.points.proofs.PutLaws.{name-all, name-turn, name-done}
 use borrow.Author.Needs.{needs}

@@ -1,12 +1,11 @@
 -- No point before slot i has the name. Assumes nothing.
 use mathlib.Core.Path.{_≡_, refl, sym, _∙_}
-use mathlib.Core.Bool.{Bool, true, false, _&&_}
+use mathlib.Core.Bool.{Bool, false, _&&_}
 use mathlib.Core.Logic.{⊎-elim}
 use mathlib.Core.List.{List}
 use Prim.Native.Nat.{ℕ, _-_, _≤_}
 use native.Mathlib.Omega.{arith}
 use borrow.Author.Tests.{eq-eqb, ne-eqb}
-use lib.Dec.{eqb}
 use lib.ListN.{getD}
 use Rattle.points.specs.Points.{inUse, nameAt, sameName, firstSlot, slotOf}
 use Rattle.points.proofs.SlotLaws.{slot-found, slot-on, slot-end}
@@ -41,7 +40,7 @@ shared-slice-read-if1 : tie.Need-shared-slice-read-if1 Inv-loop μ-loop
 shared-slice-read-if1 c = omega (arith, c .before .before .before .before .before .before .pre .1, c .before .loop-test .taken)
 
 has-name-requires : tie.Need-has-name-requires Inv-loop μ-loop
-has-name-requires c κs = let s = c .before .before .before .before .before .before .before in (s .pre .0, c .before .before .loop-test .taken, s .pre .2)
+has-name-requires c κs = let s = c .before .before .before .before .before .before .before in (s .pre .0, omega (arith, c .before .before .loop-test .taken), s .pre .2)
 
 returns : tie.Need-returns Inv-loop μ-loop
 returns c = let t = c .before .before .before .before in let a = t .before .before .before .before .before .args in (
