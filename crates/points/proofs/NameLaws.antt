@@ -37,7 +37,8 @@ name-is names name i n l m h =
     ext-getD 0 (nameAt names i) name (long ∙ sym m) (λ j b. let c : j < 8 = omega arith in name-byte names i j c ∙ h j c)
 
 -- two lists of names have the same one in slot i
-pub name-same : (names names′ : List ℕ) (i : ℕ) → length names ≡ 128 → length names′ ≡ 128 → i < 16 → ((j : ℕ) → j < 8 → getD names′ (8 * i + j) 0 ≡ getD names (8 * i + j) 0) → nameAt names′ i ≡ nameAt names i
+pub name-same : (names names′ : List ℕ) (i : ℕ) → length names ≡ 128 → length names′ ≡ 128 → i < 16 →
+    ((j : ℕ) → j < 8 → getD names′ (8 * i + j) 0 ≡ getD names (8 * i + j) 0) → nameAt names′ i ≡ nameAt names i
 name-same names names′ i n n′ l h = name-is names′ (nameAt names i) i n′ l (name-long names i 8 n l (omega arith)) (λ j c. h j c ∙ sym (name-byte names i j c))
 
 -- a slot has a name if it is in use and its name is the same; then it has no other

@@ -76,7 +76,9 @@ module _ (names places : List ℕ) where
 
     within-past : ((i : ℕ) → i < 16 → inUse places i ≡ true → placeAt places i ≤ k) → nonePast places k ≡ true
     unfolding nonePast
-    within-past h = below-by isWithin 16 (λ i l. ap not (cases (decided (inUse places i)) (λ u. le-ltb (suc k) (getD places i 0) (omega (arith, h i l u))) (λ u. le-ltb (suc k) (getD places i 0) (omega (arith, free-word places i u)))))
+    within-past h = below-by isWithin 16 (λ i l. ap not (cases (decided (inUse places i))
+        (λ u. le-ltb (suc k) (getD places i 0) (omega (arith, h i l u)))
+        (λ u. le-ltb (suc k) (getD places i 0) (omega (arith, free-word places i u)))))
 
     pub fit-right : pointsFit names places k ≡ true → PointsRight names places k
     unfolding pointsFit
