@@ -32,8 +32,8 @@
  * vulcedar_points has both, and zeros are no points. In places, 0 is a free slot, and n + 1 a point behind the first n steps.
  * The calls with points refuse with 7 other lengths than 128 bytes and 16 places, a point above the count, and two points of
  * one name. While nothing but vulcedar_keep, vulcedar_point_name, vulcedar_point_undo and vulcedar_point_back writes what is
- * lent, there is no such point; but a host may free a slot by storing 0 as its place. vulcedar_undo knows no points and leaves those that it passes above the count: in a journal
- * with points, take back with vulcedar_point_undo.
+ * lent, there is no such point; a host may also free a slot by storing 0 as its place. vulcedar_undo knows no points and
+ * leaves those that it passes above the count: in a journal with points, take back with vulcedar_point_undo.
  *
  * RECORDS. Every node's mark (enum vulcedar_mark) and class (enum vulcedar_class, how long its work is kept). A block has
  * no class. A task's class is what a table has for the mark as which the task counts: its own mark, unless it committed;
