@@ -6,3 +6,4 @@ pub mod OwnLaws
 pub mod PointLaws
 pub mod SessionLaws
 pub mod Main
+pub mod Cases
