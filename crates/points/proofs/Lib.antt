@@ -1,5 +1,6 @@
 -- Laws that the proofs here and in upper crates cite.
 pub mod SlotLaws
+pub mod KeyLaws
 pub mod PutLaws
 pub mod NamingLaws
 pub mod DropLaws

@@ -1,25 +1,34 @@
 // Named points in a journal: sixteen slots, which the caller lends as names and places. What they are is specs/Points.antt; what naming and dropping do
 // to the places of names is specs/Claim.antt. `points_fit` and `name_point` take anything; the others are for callers that have asked `points_fit`.
 ghost use mathlib.Core.Path.{_≡_};
-ghost use Prim.Native.Nat.{suc, _*_, _<_, _≤_};
+ghost use Prim.Native.Nat.{suc, _+_, _*_, _<_, _≤_};
 ghost use lib.Dec.{ltb};
 ghost use lib.ListN.{length};
 ghost use lib.Seq.{sets};
-ghost use Rattle.points.specs.Points.{sameName, nameAt, slotOf, freeSlot, nonePast, namedOnce, pointsFit, points, naming, nameOf, dropped};
+ghost use Rattle.points.specs.Keys.{halfAt, keyAt};
+ghost use Rattle.points.specs.Points.{slotOf, freeSlot, nonePast, namedOnce, pointsFit, points, naming, nameOf, dropped};
 
-// The slot's name is this one, byte for byte.
-fn has_name(names: &[u8], i: usize, name: &[u8]) -> bool
-    requires { ⌜ (length (now names) ≡ 128) × (i < 16) × (length (now name) ≡ 8) ⌝ }
-    ensures { λ r. ⌜ r ≡ sameName (nameAt (now (names .entry)) i) (now (name .entry)) ⌝ }
+fn wide(b: u8) -> u64
+    ensures { λ r. ⌜ (r ≡ b) × (r < 256) ⌝ }
 {
-    let mut j = 0;
-    while j < 8 {
-        if names[8 * i + j] != name[j] {
-            return false;
-        }
-        j += 1;
-    }
-    true
+    b as u64
+}
+
+// Four bytes as a number, the first one lowest.
+fn half(bytes: &[u8], at: usize) -> u64
+    requires { ⌜ at + 4 ≤ length (now bytes) ⌝ }
+    ensures { λ r. ⌜ (r ≡ halfAt (now (bytes .entry)) at) × (r < 4294967296) ⌝ }
+{
+    let high = wide(bytes[at + 2]) + 256 * wide(bytes[at + 3]);
+    wide(bytes[at]) + 256 * (wide(bytes[at + 1]) + 256 * high)
+}
+
+// A name as a number: two names are the same if their numbers are.
+fn key(bytes: &[u8], at: usize) -> u64
+    requires { ⌜ at + 8 ≤ length (now bytes) ⌝ }
+    ensures { λ r. ⌜ r ≡ keyAt (now (bytes .entry)) at ⌝ }
+{
+    half(bytes, at) + 4294967296 * half(bytes, at + 4)
 }
 
 // The slot of the point of this name; 16 where there is none.
@@ -27,10 +36,11 @@ pub fn slot_of(names: &[u8], places: &[u64], name: &[u8]) -> usize
     requires { ⌜ (length (now names) ≡ 128) × (length (now places) ≡ 16) × (length (now name) ≡ 8) ⌝ }
     ensures { λ r. ⌜ (r ≡ slotOf (now (names .entry)) (now (places .entry)) (now (name .entry))) × (r ≤ 16) ⌝ }
 {
+    let wanted = key(name, 0);
     let mut i = 0;
     while i < 16 {
         if places[i] != 0 {
-            if has_name(names, i, name) {
+            if key(names, 8 * i) == wanted {
                 return i;
             }
         }
