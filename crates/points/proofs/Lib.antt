@@ -1,6 +1,7 @@
 -- Laws that the proofs here and in upper crates cite.
 pub mod SlotLaws
 pub mod KeyLaws
+pub mod FitLaws
 pub mod PutLaws
 pub mod NamingLaws
 pub mod DropLaws

@@ -21,14 +21,9 @@ module _ (names places : List ℕ) (k : ℕ) where
   unfolding pointsFit
   fit-places h = rw (ne-eqb (length places) 16 h, and-false (eqb (length names) 128))
 
-  module _ (n : length names ≡ 128) (p : length places ≡ 16) where
-    pub fit-past : nonePast places k ≡ false → false ≡ pointsFit names places k
-    unfolding pointsFit
-    fit-past h = rw (n, p, h)
-
-    pub fit-once : nonePast places k ≡ true → (b : Bool) → b ≡ namedOnce names places → b ≡ pointsFit names places k
-    unfolding pointsFit
-    fit-once h b e = rw (n, p, h) e
+  pub fit-slots : length names ≡ 128 → length places ≡ 16 → (b : Bool) → b ≡ (nonePast places k && namedOnce names places) → b ≡ pointsFit names places k
+  unfolding pointsFit
+  fit-slots n p b e = rw (n, p) e
 
   pub fit-long : pointsFit names places k ≡ true → (length names ≡ 128) × (length places ≡ 16)
   unfolding pointsFit

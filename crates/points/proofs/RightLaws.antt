@@ -10,7 +10,7 @@ use lib.ListN.{length, getD, set, replicate, length-set, getD-replicate, List·g
 use lib.Seq.{getD-set-same, getD-set-other}
 use Rattle.lists.proofs.Logic.{cases, decided, and-join, parts}
 use Rattle.lists.proofs.Below.{below-at, below-by}
-use Rattle.points.specs.Points.{nameAt, inUse, placeAt, hasName, slotOf, isPast, nonePast, namedOnce, pointsFit}
+use Rattle.points.specs.Points.{nameAt, inUse, placeAt, hasName, slotOf, isPast, isWithin, isOnce, nonePast, namedOnce, pointsFit}
 use Rattle.points.specs.Claim.{pointOf, NamedApart, PointsRight}
 use Rattle.points.proofs.SlotLaws.{once-own}
 use Rattle.points.proofs.NamingLaws.{fit-long}
@@ -46,12 +46,9 @@ module _ (names places : List ℕ) where
   own-slot apart i l u = slot-is apart (nameAt names i) i l (has-by names places (nameAt names i) i u (same-self (nameAt names i)))
 
   -- each name stands once, in both forms
-  abbrev isOnce : ℕ → Bool
-  isOnce i = not (inUse places i) || eqb (slotOf names places (nameAt names i)) i
-
   once-own-slot : namedOnce names places ≡ true → (i : ℕ) → i < 16 → inUse places i ≡ true → slotOf names places (nameAt names i) ≡ i
   unfolding namedOnce
-  once-own-slot h i l u = eqb-true (slotOf names places (nameAt names i)) i (rw u at (below-at isOnce 16 i h l))
+  once-own-slot h i l u = eqb-true (slotOf names places (nameAt names i)) i (rw u at (below-at (isOnce names places) 16 i h l))
 
   once-apart : namedOnce names places ≡ true → NamedApart names places
   once-apart h i j l m u v s =
@@ -61,22 +58,19 @@ module _ (names places : List ℕ) where
 
   apart-once : NamedApart names places → namedOnce names places ≡ true
   unfolding namedOnce
-  apart-once a = below-by isOnce 16 (λ i l. cases (decided (inUse places i))
+  apart-once a = below-by (isOnce names places) 16 (λ i l. cases (decided (inUse places i))
       (λ u. once-own places i (slotOf names places (nameAt names i)) (used-word places i u) (own-slot a i l u))
       (λ u. rw u))
 
   -- no point is past the count, in both forms
   module _ (k : ℕ) where
-    abbrev isWithin : ℕ → Bool
-    isWithin i = not (isPast places k i)
-
     past-within : nonePast places k ≡ true → (i : ℕ) → i < 16 → inUse places i ≡ true → placeAt places i ≤ k
     unfolding nonePast
-    past-within h i l u = omega (arith, ltb-false (suc k) (getD places i 0) (not-true (isPast places k i) (below-at isWithin 16 i h l)))
+    past-within h i l u = omega (arith, ltb-false (suc k) (getD places i 0) (not-true (isPast places k i) (below-at (isWithin places k) 16 i h l)))
 
     within-past : ((i : ℕ) → i < 16 → inUse places i ≡ true → placeAt places i ≤ k) → nonePast places k ≡ true
     unfolding nonePast
-    within-past h = below-by isWithin 16 (λ i l. ap not (cases (decided (inUse places i))
+    within-past h = below-by (isWithin places k) 16 (λ i l. ap not (cases (decided (inUse places i))
         (λ u. le-ltb (suc k) (getD places i 0) (omega (arith, h i l u)))
         (λ u. le-ltb (suc k) (getD places i 0) (omega (arith, free-word places i u)))))
 

@@ -49,11 +49,17 @@ abbrev pub isPast : List ℕ → ℕ → ℕ → Bool
 isPast places k i = ltb (suc k) (getD places i 0)
 
 -- M2: no point is past the count; and each name stands once: the first slot of a point's name is its own
+abbrev pub isWithin : List ℕ → ℕ → ℕ → Bool
+isWithin places k i = not (isPast places k i)
+
+abbrev pub isOnce : List ℕ → List ℕ → ℕ → Bool
+isOnce names places i = not (inUse places i) || eqb (slotOf names places (nameAt names i)) i
+
 unfoldable pub nonePast : List ℕ → ℕ → Bool
-nonePast places k = allBelow (λ i. not (isPast places k i)) 16
+nonePast places k = allBelow (isWithin places k) 16
 
 unfoldable pub namedOnce : List ℕ → List ℕ → Bool
-namedOnce names places = allBelow (λ i. not (inUse places i) || eqb (slotOf names places (nameAt names i)) i) 16
+namedOnce names places = allBelow (isOnce names places) 16
 
 -- M2: what 7 asks of points: the lengths, no point past the count, no two of one name
 unfoldable pub pointsFit : List ℕ → List ℕ → ℕ → Bool

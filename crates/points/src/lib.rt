@@ -1,6 +1,7 @@
 // Named points in a journal: sixteen slots, which the caller lends as names and places. What they are is specs/Points.antt; what naming and dropping do
 // to the places of names is specs/Claim.antt. `points_fit` and `name_point` take anything; the others are for callers that have asked `points_fit`.
 ghost use mathlib.Core.Path.{_≡_};
+ghost use mathlib.Core.Bool.{_&&_};
 ghost use Prim.Native.Nat.{suc, _+_, _*_, _<_, _≤_};
 ghost use lib.Dec.{ltb};
 ghost use lib.ListN.{length};
@@ -74,29 +75,18 @@ fn is_past(word: u64, count: usize) -> bool
     count < (word - 1) as usize
 }
 
-// No point is past the count.
-fn none_past(places: &[u64], count: usize) -> bool
-    requires { ⌜ length (now places) ≡ 16 ⌝ }
-    ensures { λ r. ⌜ r ≡ nonePast (now (places .entry)) count ⌝ }
-{
-    let mut i = 0;
-    while i < 16 {
-        if is_past(places[i], count) {
-            return false;
-        }
-        i += 1;
-    }
-    true
-}
-
-// Each name stands once.
-fn named_once(names: &[u8], places: &[u64]) -> bool
+// No point is past the count, and each name stands once.
+fn slots_fit(names: &[u8], places: &[u64], count: usize) -> bool
     requires { ⌜ (length (now names) ≡ 128) × (length (now places) ≡ 16) ⌝ }
-    ensures { λ r. ⌜ r ≡ namedOnce (now (names .entry)) (now (places .entry)) ⌝ }
+    ensures { λ r. ⌜ r ≡ (nonePast (now (places .entry)) count && namedOnce (now (names .entry)) (now (places .entry))) ⌝ }
 {
     let mut i = 0;
     while i < 16 {
-        if places[i] != 0 {
+        let word = places[i];
+        if word != 0 {
+            if is_past(word, count) {
+                return false;
+            }
             let a = 8 * i;
             let e = a + 8;
             if slot_of(names, places, &names[a..e]) != i {
@@ -118,10 +108,7 @@ pub fn points_fit(names: &[u8], places: &[u64], count: usize) -> bool
     if places.len() != 16 {
         return false;
     }
-    if !none_past(places, count) {
-        return false;
-    }
-    named_once(names, places)
+    slots_fit(names, places, count)
 }
 
 // Stores a slot's name.
