@@ -237,8 +237,8 @@ pub extern "C" fn vulcedar_point_undo(
 ) -> u32
     ensures { λ r. ⌜ AsReturned (pointUndoOwn (now (plan .entry)) (now (state .entry)) (entriesOf (now (entries .entry))) (now (count .entry)) (now (names .entry)) (now (places .entry))) r (now (state .exit)) (now (count .exit)) (now (names .exit)) (now (places .exit)) ⌝ }
 {
-    let number = rewind::point_undo(plan, state, entries, count, names, places);
-    packed(number, 0)
+    let undone = rewind::point_undo(plan, state, entries, count, names, places);
+    packed(undone, 0)
 }
 
 #[no_mangle]
@@ -253,8 +253,8 @@ pub extern "C" fn vulcedar_point_back(
 ) -> u32
     ensures { λ r. ⌜ AsReturned (pointBackOwn (now (plan .entry)) (now (name .entry)) (now (state .entry)) (entriesOf (now (entries .entry))) (now (count .entry)) (now (names .entry)) (now (places .entry))) r (now (state .exit)) (now (count .exit)) (now (names .exit)) (now (places .exit)) ⌝ }
 {
-    let number = rewind::point_back(plan, name, state, entries, count, names, places);
-    packed(number, 0)
+    let gone = rewind::point_back(plan, name, state, entries, count, names, places);
+    packed(gone, 0)
 }
 
 #[no_mangle]
