@@ -4,7 +4,7 @@ use mathlib.Core.List.{List}
 use Prim.Native.Nat.{ℕ, _+_, _*_}
 use lib.ListN.{getD}
 
--- four bytes from `at` on, the first one lowest
+-- M1: four bytes from `at` on, the first one lowest; and eight, a name
 unfoldable pub halfAt : List ℕ → ℕ → ℕ
 halfAt bs at = getD bs at 0 + 256 * (getD bs (at + 1) 0 + 256 * (getD bs (at + 2) 0 + 256 * getD bs (at + 3) 0))
 
