@@ -1,10 +1,9 @@
 -- Entries read as arrays of four bytes. Assumes nothing.
 use mathlib.Core.Path.{_≡_, refl, sym, _∙_, ap}
-use mathlib.Core.List.{List, [], _∷_, map}
+use mathlib.Core.List.{List, [], _∷_}
 use Prim.Native.Nat.{ℕ, zero, suc, _-_, _≤_, _<_}
 use native.Mathlib.Omega.{arith}
 use lib.ListN.{length, getD, length-map, List·getD-map, List·getD-eq-default}
-use Rattle.journal.specs.declared.Entry.{Entry}
 use Rattle.journal.specs.Journal.{noEntry}
 use Rattle.rewind.specs.Arrays.{entryIn, entriesOf}
 

@@ -1,10 +1,10 @@
 -- A take-back with points and going back, each answer of them, where the plan, the lengths and the points are right. Assumes nothing.
-use mathlib.Core.Path.{_≡_, refl, sym, _∙_, ap, ap₂}
+use mathlib.Core.Path.{_≡_, refl, sym, _∙_, ap}
 use mathlib.Core.Bool.{true, _&&_}
 use mathlib.Core.List.{List}
-use Prim.Native.Nat.{ℕ, _+_, _-_, _*_, _≤_, _<_}
+use Prim.Native.Nat.{ℕ, _-_, _*_, _≤_, _<_}
 use native.Mathlib.Omega.{arith}
-use borrow.Author.Tests.{eq-eqb, ne-eqb, eqb-true, eqb-false, not-true, lt-ltb, le-ltb, le-leb}
+use borrow.Author.Tests.{eq-eqb, ne-eqb, eqb-false, not-true, lt-ltb, le-ltb, le-leb}
 use lib.Dec.{eqb, leb}
 use lib.ListN.{length, getD}
 use Rattle.lists.proofs.Logic.{cases, decided, and-left, and-join}
@@ -15,10 +15,10 @@ use Rattle.job.specs.Simulation.{stateFits}
 use Rattle.layout.specs.Layout.{Laid}
 use Rattle.journal.specs.declared.Entry.{Entry}
 use Rattle.journal.specs.Journal.{Undone, undone, undoNumber, undoOf}
-use Rattle.points.specs.Points.{points, inUse, hasName, placeAt, slotOf, pointsFit, dropped}
+use Rattle.points.specs.Points.{points, inUse, placeAt, slotOf, pointsFit, dropped}
 use Rattle.points.proofs.FirstLaws.{slot-has}
 use Rattle.points.proofs.Main.{points-claim}
-use Rattle.rewind.specs.Return.{Returned, returned, returnedBy, pointUndoFits, pointUndoOf, backOf, backFits, pointBackOf}
+use Rattle.rewind.specs.Return.{returned, returnedBy, pointUndoFits, pointUndoOf, backOf, backFits, pointBackOf}
 use Rattle.rewind.specs.Rewound.{firstFault, rewound}
 use Rattle.rewind.proofs.BackLaws.{back-dry}
 
@@ -46,7 +46,7 @@ module _ (names places : List ℕ) (k : ℕ) (right : pointsFit names places k �
   pub word-some : 0 < getD places s 0
   word-some = let h = eqb-false (getD places s 0) 0 (not-true _ in-use) in omega arith
 
-  pub place-within : placeAt places s ≤ k
+  place-within : placeAt places s ≤ k
   place-within = points-claim .exact names places k .0 right .within s l in-use
 
 module _ (p : List ℕ) (lay : Layout) (row : ℕ → ℕ) (st : List ℕ) (laid : Laid p lay st) (es : List Entry) (k : ℕ) (within : k ≤ length es)

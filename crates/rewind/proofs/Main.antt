@@ -1,5 +1,4 @@
 -- The theorems of going back (specs/Session.antt). Assumes nothing.
-use mathlib.Core.List.{List}
 use Rattle.event.specs.Site.{own}
 use Rattle.job.specs.Claim.{Claim}
 use Rattle.job.proofs.Main.{demand3}

@@ -14,7 +14,6 @@ use Rattle.event.specs.Site.{own}
 use Rattle.job.specs.Simulation.{stateFits}
 use Rattle.layout.specs.Layout.{via, layoutBy, Laid}
 use Rattle.simulation.proofs.OwnLaws.{own-laid, as-own}
-use Rattle.journal.specs.declared.Entry.{Entry}
 use Rattle.points.specs.Points.{points, pointsFit}
 use Rattle.rewind.specs.Arrays.{entriesOf}
 use Rattle.rewind.specs.Return.{Returned, returned, pointUndoFits, pointUndoOf, pointUndoOwn, backFits, pointBackOf, pointBackOwn}

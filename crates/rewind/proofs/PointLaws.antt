@@ -2,7 +2,7 @@
 use mathlib.Core.Path.{_≡_, refl, sym, _∙_, ap}
 use mathlib.Core.Bool.{true, _&&_, and-true}
 use mathlib.Core.List.{List}
-use Prim.Native.Nat.{ℕ, suc, _-_}
+use Prim.Native.Nat.{ℕ, _-_}
 use native.Mathlib.Omega.{arith}
 use lib.Dec.{eqb, leb, ltb}
 use lib.ListN.{length}
@@ -14,9 +14,9 @@ use Rattle.event.specs.Site.{Layout}
 use Rattle.job.specs.Simulation.{stateFits}
 use Rattle.journal.specs.declared.Entry.{Entry}
 use Rattle.journal.specs.Journal.{Undone, undoFits, undoNumber, undoOf}
-use Rattle.points.specs.Points.{points, placeAt, slotOf, pointsFit}
+use Rattle.points.specs.Points.{placeAt, slotOf, pointsFit}
 use Rattle.points.proofs.Main.{points-claim}
-use Rattle.rewind.specs.Return.{Returned, returned, returnedBy, pointUndoFits, pointUndoOf, backOf, backFits, pointBackOf}
+use Rattle.rewind.specs.Return.{Returned, returnedBy, pointUndoFits, pointUndoOf, backOf, backFits, pointBackOf}
 use Rattle.rewind.specs.Session.{PointsLeft}
 use Rattle.rewind.proofs.CallLaws.{undo-leaves, returned-done, returned-left}
 

@@ -18,7 +18,7 @@ use Rattle.job.specs.Simulation.{stateFits}
 use Rattle.job.specs.Claim.{Claim}
 use Rattle.journal.specs.declared.Entry.{Entry}
 use Rattle.journal.specs.Journal.{Undone, undone, undoOf, keepFits, keptIf, keepOf, stepOn}
-use Rattle.journal.specs.Session.{lent, undoneLent, keep, moved}
+use Rattle.journal.specs.Session.{lent, undoneLent, moved}
 use Rattle.journal.proofs.SessionLaws.{stepsTo, before, Sound, begun-sound, keep-sound, undo-is, sound-back, undo-sound, sound-well}
 use Rattle.points.specs.Points.{points, nameAt, inUse, placeAt, slotOf, dropped}
 use Rattle.points.specs.Claim.{PointsRight}

@@ -42,7 +42,7 @@ fn first_fault(
     place: usize,
     count: usize,
 ) -> u8
-    requires { ⌜ (size (now plan) ≤ 160) × (place ≤ count) × (count ≤ length (now entries)) ⌝ }
+    requires { ⌜ size (now plan) ≤ 160 ⌝ }
     ensures { λ r. ⌜ ((home : List ℕ) → r ≡ firstFault (now (plan .entry)) (layoutBy rows home) (via (now (row .entry))) (entriesOf (now (entries .entry))) (count - place) count) ⌝ }
 {
     let mut i = count;
@@ -68,7 +68,6 @@ fn rewind(
     count: usize,
 )
     requires { ⌜ Laid (now plan) (layoutBy rows (now home)) (now state) ⌝ }
-    requires { ⌜ (place ≤ count) × (count ≤ length (now entries)) ⌝ }
     requires { ⌜ firstFault (now plan) (layoutBy rows (now home)) (via (now row)) (entriesOf (now entries)) (count - place) count ≡ 0 ⌝ }
     ensures { λ _. ⌜ now (state .exit) ≡ rewound (now (plan .entry)) (layoutBy rows (now (home .entry))) (via (now (row .entry))) (now (state .entry)) (entriesOf (now (entries .entry))) (count - place) count ⌝ }
 {

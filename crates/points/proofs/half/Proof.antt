@@ -1,5 +1,4 @@
 -- Assumes nothing.
-use mathlib.Core.Path.{_≡_}
 use native.Mathlib.Omega.{arith}
 use Rattle.points.specs.Keys.{halfAt}
 use borrow.Author.Needs.{needs}

@@ -1,7 +1,7 @@
 -- The entries from i on are without fault. Assumes nothing.
 use mathlib.Core.Path.{_≡_, refl, sym, _∙_}
 use mathlib.Core.List.{List}
-use Prim.Native.Nat.{ℕ, _-_, _≤_}
+use Prim.Native.Nat.{ℕ, _-_}
 use native.Mathlib.Omega.{arith}
 use Rattle.layout.specs.Layout.{via, layoutBy}
 use Rattle.rewind.specs.Arrays.{entriesOf}
@@ -12,14 +12,14 @@ use Rattle.rewind.proofs.first_fault.Statement.{statement}
 use Rattle.rewind.proofs.first_fault.Tie as tie
 
 abbrev Inv-loop : tie.InvT-loop
-Inv-loop plan row rows entries place count i₀ i = (place ≤ i) × (i ≤ count)
-    × ((home : List ℕ) → firstFault plan (layoutBy rows home) (via row) (entriesOf entries) (i - place) i ≡ firstFault plan (layoutBy rows home) (via row) (entriesOf entries) (count - place) count)
+Inv-loop plan row rows entries place count i₀ i =
+    ((home : List ℕ) → firstFault plan (layoutBy rows home) (via row) (entriesOf entries) (i - place) i ≡ firstFault plan (layoutBy rows home) (via row) (entriesOf entries) (count - place) count)
 
 abbrev μ-loop : tie.MeasureT-loop
 μ-loop plan row rows entries place count i₀ i = i - place
 
 loop-holds : tie.Need-loop-holds Inv-loop μ-loop
-loop-holds c = (c .before .before .pre .1, omega arith, λ home. refl)
+loop-holds c = λ home. refl
 
 sub-i : tie.Need-sub-i Inv-loop μ-loop
 sub-i c = omega (arith, c .loop-test .taken)
@@ -28,20 +28,19 @@ entry-at-requires : tie.Need-entry-at-requires Inv-loop μ-loop
 entry-at-requires c κs = search needs
 
 entry-fault-requires : tie.Need-entry-fault-requires Inv-loop μ-loop
-entry-fault-requires c κs = c .before .before .before .before .before .pre .0
+entry-fault-requires c κs = c .before .before .before .before .before .pre
 
 returns : tie.Need-returns Inv-loop μ-loop
-returns c = λ home. fault-met _ _ _ _ _ _ (c .before .before .before .loop-test .taken) _ (c .before .before .entry-at .ensures) _ (c .before .entry-fault .ensures home) (c .if1 .taken) ∙ c .before .before .before .before .loop .inv .2 home
+returns c = λ home. fault-met _ _ _ _ _ _ (c .before .before .before .loop-test .taken) _ (c .before .before .entry-at .ensures) _ (c .before .entry-fault .ensures home) (c .if1 .taken) ∙ c .before .before .before .before .loop .inv home
 
 loop-less : tie.Need-loop-less Inv-loop μ-loop
 loop-less c = search needs
 
 loop-again : tie.Need-loop-again Inv-loop μ-loop
-loop-again c = let t = c .before .before .before .loop-test .taken in
-    (omega (arith, t), omega (arith, c .before .before .before .before .loop .inv .1), λ home. fault-on _ _ _ _ _ _ t _ (c .before .before .entry-at .ensures) (sym (c .before .entry-fault .ensures home) ∙ c .if1 .left) ∙ c .before .before .before .before .loop .inv .2 home)
+loop-again c = λ home. fault-on _ _ _ _ _ _ (c .before .before .before .loop-test .taken) _ (c .before .before .entry-at .ensures) (sym (c .before .entry-fault .ensures home) ∙ c .if1 .left) ∙ c .before .before .before .before .loop .inv home
 
 returns-2 : tie.Need-returns-2 Inv-loop μ-loop
-returns-2 c = λ home. sym (fault-end _ _ _ _ _ _ (c .loop-test .left)) ∙ c .before .loop .inv .2 home
+returns-2 c = λ home. sym (fault-end _ _ _ _ _ _ (c .loop-test .left)) ∙ c .before .loop .inv home
 
 pub first-fault-spec : {M : Type 1} → statement M
 first-fault-spec =

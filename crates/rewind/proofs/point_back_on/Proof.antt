@@ -1,13 +1,12 @@
 -- The name's slot, a look at the entries down to its place, and only then the clearing. Assumes nothing.
-use mathlib.Core.Path.{_≡_, refl, sym, _∙_}
+use mathlib.Core.Path.{refl, sym, _∙_}
 use Prim.Native.Nat.{_≤_, _<_}
 use native.Mathlib.Omega.{arith}
 use lib.ListN.{length}
-use Rattle.points.specs.Points.{placeAt}
 use Rattle.points.proofs.NamingLaws.{fit-long}
 use Rattle.rewind.specs.Arrays.{entriesOf}
 use Rattle.rewind.proofs.ArrayLaws.{array-length}
-use Rattle.rewind.proofs.CallLaws.{back-unknown, word-some, place-within, back-refused, back-done}
+use Rattle.rewind.proofs.CallLaws.{back-unknown, word-some, back-refused, back-done}
 use borrow.Author.Needs.{needs}
 use Rattle.rewind.proofs.point_back_on.Statement.{statement}
 use Rattle.rewind.proofs.point_back_on.Tie as tie
@@ -19,10 +18,6 @@ within c = rw (array-length (c .args .entries .now)) (c .pre .1 .1)
 -- a slot was found
 found : (c : tie.Else1) → c .before .slot-of .result < 16
 found c = omega (arith, c .if1 .left, c .before .slot-of .ensures .1)
-
--- its point is at a place in the journal
-near : (c : tie.Else1) → let a = c .before .before .before .before .before .before .before .before .before .before .before .args in placeAt (a .places .now) (c .before .slot-of .result) ≤ a .count .now
-near c = let s = c .before .before .before .before .before .before .before .before .before .before .before in place-within _ _ _ (s .pre .1 .2) _ _ (c .before .slot-of .ensures .0) (found c)
 
 slot-of-requires : tie.Need-slot-of-requires
 slot-of-requires c κs = let s = c .before .before .before .before .before .before .before .before .before in let l = fit-long _ _ _ (s .pre .1 .2) in (l .0, l .1, s .pre .1 .0)
@@ -45,10 +40,10 @@ slice-read-place c = omega (arith, found (c .before), fit-long _ _ _ (c .before 
 
 sub-place : tie.Need-sub-place
 sub-place c = let e = c .before in let s = e .before .before .before .before .before .before .before .before .before .before .before in
-    word-some _ _ _ (s .pre .1 .2) _ _ (e .before .slot-of .ensures .0) (found e)
+    omega (arith, word-some _ _ _ (s .pre .1 .2) _ _ (e .before .slot-of .ensures .0) (found e))
 
 first-fault-requires : tie.Need-first-fault-requires
-first-fault-requires c κs = let s = c .before .before .before .before .before .before .before .before .before .before .before .before .before in (s .pre .0 .plan .few, near (c .before .before), s .pre .1 .1)
+first-fault-requires c κs = c .before .before .before .before .before .before .before .before .before .before .before .before .before .pre .0 .plan .few
 
 same-length-3 : tie.Need-same-length-3
 same-length-3 c = search needs
@@ -61,7 +56,7 @@ returns-2 c = let e = c .before .before .before .before in let s = e .before .be
     back-refused _ _ _ _ (s .pre .0) _ _ (within s) _ _ (s .pre .1 .2) _ (s .pre .1 .0) _ (e .before .slot-of .ensures .0) (found e) _ refl _ (c .before .first-fault .ensures _) (c .if2 .taken)
 
 rewind-requires : tie.Need-rewind-requires
-rewind-requires c κs = let s = c .before .before .before .before .before .before .before .before .before .before .before .before .before .before .before .before in (s .pre .0, ((near (c .before .before .before .before .before), s .pre .1 .1), sym (c .before .before .first-fault .ensures _) ∙ c .before .if2 .left))
+rewind-requires c κs = let s = c .before .before .before .before .before .before .before .before .before .before .before .before .before .before .before .before in (s .pre .0, sym (c .before .before .first-fault .ensures _) ∙ c .before .if2 .left)
 
 drop-past-requires : tie.Need-drop-past-requires
 drop-past-requires c κs = fit-long _ _ _ (c .before .before .before .before .before .before .before .before .before .before .before .before .before .before .before .before .before .before .before .before .before .pre .1 .2)
