@@ -14,7 +14,7 @@ ghost use Rattle.points.specs.Points.{points, pointsFit};
 ghost use Rattle.journal.specs.Journal.{noEntry};
 ghost use Rattle.rewind.specs.Arrays.{entriesOf};
 ghost use Rattle.rewind.specs.Rewound.{firstFault, rewound};
-ghost use Rattle.rewind.specs.Return.{returned, pointUndoOf, pointBackOf, pointUndoOwn, pointBackOwn};
+ghost use Rattle.rewind.specs.Return.{returned, returnedBy, backOf, pointUndoOf, pointBackOf, pointUndoOwn, pointBackOwn};
 use journal::Entry;
 
 // The entry at a place; past the end one of zeros.
@@ -78,6 +78,34 @@ fn rewind(
     }
 }
 
+// Steps taken back one by one to a place, and the points past it dropped; or the first number met, and all left.
+fn return_to(
+    plan: &[u8],
+    home: &[u8],
+    row: &[u8],
+    rows: usize,
+    state: &mut [u8],
+    entries: &[[u8; 4]],
+    place: usize,
+    count: &mut usize,
+    names: &mut [u8],
+    places: &mut [u64],
+) -> u8
+    requires { ⌜ Laid (now plan) (layoutBy rows (now home)) (now state) ⌝ }
+    requires { ⌜ (place ≤ now count) × (now count ≤ length (now entries)) × (length (now names) ≡ 128) × (length (now places) ≡ 16) ⌝ }
+    ensures { λ r. ⌜ returnedBy (backOf (now (plan .entry)) (layoutBy rows (now (home .entry))) (via (now (row .entry))) (now (count .entry) - place) (now (state .entry)) (entriesOf (now (entries .entry))) (now (count .entry))) (now (state .entry)) (now (count .entry)) (now (names .entry)) (now (places .entry)) ≡ returned r (now (state .exit)) (now (count .exit)) (points (now (names .exit)) (now (places .exit))) ⌝ }
+{
+    let k = *count;
+    let number = first_fault(plan, row, rows, entries, place, k);
+    if number != 0 {
+        return number;
+    }
+    rewind(plan, home, row, rows, state, entries, place, k);
+    *count = place;
+    points::drop_past(place, names, places);
+    0
+}
+
 // The last entry taken back, and the points that it passes dropped.
 pub fn point_undo_on(
     plan: &[u8],
@@ -95,12 +123,21 @@ pub fn point_undo_on(
     ensures { λ r. ⌜ pointUndoOf (now (plan .entry)) (layoutBy rows (now (home .entry))) (via (now (row .entry))) (now (state .entry)) (entriesOf (now (entries .entry))) (now (count .entry)) (now (names .entry)) (now (places .entry)) ≡ returned r (now (state .exit)) (now (count .exit)) (points (now (names .exit)) (now (places .exit))) ⌝ }
 {
     let k = *count;
-    let e = entry_at(entries, journal::last_place(k));
-    let number = keeping::undo_on(plan, home, row, rows, state, entries.len(), count, e);
-    if number == 0 {
-        points::drop_past(*count, names, places);
+    if k == 0 {
+        return 16;
     }
-    number
+    return_to(
+        plan,
+        home,
+        row,
+        rows,
+        state,
+        entries,
+        k - 1,
+        count,
+        names,
+        places,
+    )
 }
 
 // Steps taken back to the place of a name's point, and the points past it dropped.
@@ -125,15 +162,18 @@ pub fn point_back_on(
         return 19;
     }
     let place = (places[slot] - 1) as usize;
-    let k = *count;
-    let number = first_fault(plan, row, rows, entries, place, k);
-    if number != 0 {
-        return number;
-    }
-    rewind(plan, home, row, rows, state, entries, place, k);
-    *count = place;
-    points::drop_past(place, names, places);
-    0
+    return_to(
+        plan,
+        home,
+        row,
+        rows,
+        state,
+        entries,
+        place,
+        count,
+        names,
+        places,
+    )
 }
 
 // The last entry taken back on a plan of two bytes a node, and the points that it passes dropped.

@@ -200,6 +200,13 @@ fn undo_result(plan: &[u8], state: &mut [u8], len: usize, count: &mut usize, e: 
     packed(keeping::undo(plan, state, len, count, e), 0)
 }
 
+// The place of the last of so many.
+fn last_place(count: usize) -> usize
+    ensures { λ r. ⌜ r ≡ count - 1 ⌝ }
+{
+    if count == 0 { 0 } else { count - 1 }
+}
+
 #[no_mangle]
 pub extern "C" fn vulcedar_undo(
     plan: &[u8],
@@ -210,7 +217,7 @@ pub extern "C" fn vulcedar_undo(
     ensures { λ r. ⌜ AsUndone (undoOwn (now (plan .entry)) (now (state .entry)) (now (entries .entry)) (now (count .entry))) r (now (state .exit)) (now (count .exit)) ⌝ }
 {
     let len = entries.len();
-    let e = journal::entry_at(entries, journal::last_place(*count));
+    let e = journal::entry_at(entries, last_place(*count));
     undo_result(plan, state, len, count, e)
 }
 

@@ -1,12 +1,11 @@
--- The name's slot, a look at the entries down to its place, and only then the clearing. Assumes nothing.
-use mathlib.Core.Path.{refl, sym, _∙_}
+-- The name's slot, and the way back to its place. Assumes nothing.
 use Prim.Native.Nat.{_≤_, _<_}
 use native.Mathlib.Omega.{arith}
 use lib.ListN.{length}
 use Rattle.points.proofs.NamingLaws.{fit-long}
 use Rattle.rewind.specs.Arrays.{entriesOf}
 use Rattle.rewind.proofs.ArrayLaws.{array-length}
-use Rattle.rewind.proofs.CallLaws.{back-unknown, word-some, back-refused, back-done}
+use Rattle.rewind.proofs.CallLaws.{word-some, place-within, back-unknown, back-way}
 use borrow.Author.Needs.{needs}
 use Rattle.rewind.proofs.point_back_on.Statement.{statement}
 use Rattle.rewind.proofs.point_back_on.Tie as tie
@@ -42,8 +41,9 @@ sub-place : tie.Need-sub-place
 sub-place c = let e = c .before in let s = e .before .before .before .before .before .before .before .before .before .before .before in
     omega (arith, word-some _ _ _ (s .pre .1 .2) _ _ (e .before .slot-of .ensures .0) (found e))
 
-first-fault-requires : tie.Need-first-fault-requires
-first-fault-requires c κs = c .before .before .before .before .before .before .before .before .before .before .before .before .before .pre .0 .plan .few
+return-to-requires : tie.Need-return-to-requires
+return-to-requires c κs = let e = c .before .before .before .before .before in let s = e .before .before .before .before .before .before .before .before .before .before .before in let l = fit-long _ _ _ (s .pre .1 .2) in
+    (s .pre .0, (place-within _ _ _ (s .pre .1 .2) _ _ (e .before .slot-of .ensures .0) (found e), s .pre .1 .1, l .0, l .1))
 
 same-length-3 : tie.Need-same-length-3
 same-length-3 c = search needs
@@ -51,28 +51,12 @@ same-length-3 c = search needs
 same-length-4 : tie.Need-same-length-4
 same-length-4 c = search needs
 
-returns-2 : tie.Need-returns-2
-returns-2 c = let e = c .before .before .before .before in let s = e .before .before .before .before .before .before .before .before .before .before .before in
-    back-refused _ _ _ _ (s .pre .0) _ _ (within s) _ _ (s .pre .1 .2) _ (s .pre .1 .0) _ (e .before .slot-of .ensures .0) (found e) _ refl _ (c .before .first-fault .ensures _) (c .if2 .taken)
-
-rewind-requires : tie.Need-rewind-requires
-rewind-requires c κs = let s = c .before .before .before .before .before .before .before .before .before .before .before .before .before .before .before .before in (s .pre .0, sym (c .before .before .first-fault .ensures _) ∙ c .before .if2 .left)
-
-drop-past-requires : tie.Need-drop-past-requires
-drop-past-requires c κs = fit-long _ _ _ (c .before .before .before .before .before .before .before .before .before .before .before .before .before .before .before .before .before .before .before .before .before .pre .1 .2)
-
 same-length-5 : tie.Need-same-length-5
 same-length-5 c = search needs
 
-same-length-6 : tie.Need-same-length-6
-same-length-6 c = search needs
-
-same-length-7 : tie.Need-same-length-7
-same-length-7 c = search needs
-
-returns-3 : tie.Need-returns-3
-returns-3 c = let e = c .before .before .before .before .before .before .before .before .before .before .before .before .before .before .before in let s = e .before .before .before .before .before .before .before .before .before .before .before in
-    back-done _ _ _ _ (s .pre .0) _ _ (within s) _ _ (s .pre .1 .2) _ (s .pre .1 .0) _ (e .before .slot-of .ensures .0) (found e) _ refl (sym (c .before .before .before .before .before .before .before .before .before .before .before .before .first-fault .ensures _) ∙ c .before .before .before .before .before .before .before .before .before .before .before .if2 .left) _ (c .before .before .before .before .before .before .before .before .before .rewind .ensures) _ _ (c .before .before .before .before .drop-past .ensures)
+returns-2 : tie.Need-returns-2
+returns-2 c = let e = c .before .before .before .before .before .before .before .before .before .before .before .before in let s = e .before .before .before .before .before .before .before .before .before .before .before in
+    back-way _ _ _ _ (s .pre .0) _ _ (within s) _ _ (s .pre .1 .2) _ (s .pre .1 .0) _ (e .before .slot-of .ensures .0) (found e) _ (c .before .before .before .before .before .before .return-to .ensures)
 
 pub point-back-on-spec : {M : Type 1} → statement M
 point-back-on-spec =
@@ -85,13 +69,8 @@ point-back-on-spec =
     mul-place
     slice-read-place
     sub-place
-    first-fault-requires
+    return-to-requires
     same-length-3
     same-length-4
-    returns-2
-    rewind-requires
-    drop-past-requires
     same-length-5
-    same-length-6
-    same-length-7
-    returns-3)
+    returns-2)

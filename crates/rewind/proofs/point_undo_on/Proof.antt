@@ -1,31 +1,27 @@
--- The journal's take-back; where it passes, the points past the new count are dropped. Assumes nothing.
-use mathlib.Core.Path.{_≡_, sym, _∙_, ap}
-use Prim.Native.Nat.{ℕ, _-_}
-use lib.ListN.{getD}
-use Rattle.journal.specs.Journal.{noEntry}
+-- No step is left, or it is the way back to the place before the last one. Assumes nothing.
+use Prim.Native.Nat.{_≤_}
+use native.Mathlib.Omega.{arith}
+use lib.ListN.{length}
 use Rattle.points.proofs.NamingLaws.{fit-long}
 use Rattle.rewind.specs.Arrays.{entriesOf}
 use Rattle.rewind.proofs.ArrayLaws.{array-length}
-use Rattle.rewind.proofs.CallLaws.{undo-went, undo-stopped}
+use Rattle.rewind.proofs.CallLaws.{undo-empty, undo-way}
 use borrow.Author.Needs.{needs}
 use Rattle.rewind.proofs.point_undo_on.Statement.{statement}
 use Rattle.rewind.proofs.point_undo_on.Tie as tie
 
--- the entry that was read is the last one
-last : (c : tie.After-undo-on) → let a = c .before .before .before .before .before .before .before .before .before .before .before .before .args in getD (entriesOf (a .entries .now)) (a .count .now - 1) noEntry ≡ c .before .before .before .entry-at .result
-last c = let a = c .before .before .before .before .before .before .before .before .before .before .before .before .args in sym (c .before .before .before .entry-at .ensures ∙ ap (λ (j : ℕ). getD (entriesOf (a .entries .now)) j noEntry) (c .before .before .before .before .last-place .ensures))
+-- the count is in the entries
+within : (c : tie.Start) → c .args .count .now ≤ length (entriesOf (c .args .entries .now))
+within c = rw (array-length (c .args .entries .now)) (c .pre .1 .0)
 
-last-place-requires : tie.Need-last-place-requires
-last-place-requires c κs = search needs
+returns : tie.Need-returns
+returns c = let s = c .before .before .before .before .before .before .before .before in undo-empty _ _ _ _ (s .pre .0) _ _ (within s) _ _ (s .pre .1 .1) (c .if1 .taken)
 
-entry-at-requires : tie.Need-entry-at-requires
-entry-at-requires c κs = search needs
+sub-return-to : tie.Need-sub-return-to
+sub-return-to c = search needs
 
-undo-on-requires : tie.Need-undo-on-requires
-undo-on-requires c κs = search needs
-
-drop-past-requires : tie.Need-drop-past-requires
-drop-past-requires c κs = fit-long _ _ _ (c .before .before .before .before .before .before .before .before .before .before .before .before .before .before .before .before .before .pre .1 .1)
+return-to-requires : tie.Need-return-to-requires
+return-to-requires c κs = let s = c .before .before .before .before .before .before .before .before .before .before .before .before in let l = fit-long _ _ _ (s .pre .1 .1) in (s .pre .0, (omega (arith, c .before .before .before .before .if1 .left), s .pre .1 .0, l .0, l .1))
 
 same-length : tie.Need-same-length
 same-length c = search needs
@@ -36,28 +32,17 @@ same-length-2 c = search needs
 same-length-3 : tie.Need-same-length-3
 same-length-3 c = search needs
 
-returns : tie.Need-returns
-returns c = let u = c .before .before .before .before .before .before .before .before .before .before in let s = u .before .before .before .before .before .before .before .before .before .before .before .before in
-    undo-went _ _ _ _ (s .pre .0) _ _ (rw (array-length (s .args .entries .now)) (s .pre .1 .0)) _ _ (s .pre .1 .1) _ _ _ (u .undo-on .ensures _ (array-length _) (last u)) (c .before .before .before .before .before .before .before .if1 .taken) _ _ (c .before .before .before .before .drop-past .ensures)
-
-same-length-4 : tie.Need-same-length-4
-same-length-4 c = search needs
-
 returns-2 : tie.Need-returns-2
-returns-2 c = let u = c .before .before .before in let s = u .before .before .before .before .before .before .before .before .before .before .before .before in
-    undo-stopped _ _ _ _ (s .pre .0) _ _ (rw (array-length (s .args .entries .now)) (s .pre .1 .0)) _ _ (s .pre .1 .1) _ _ _ (u .undo-on .ensures _ (array-length _) (last u)) (c .if1 .left)
+returns-2 c = let s = c .before .before .before .before .before .before .before .before .before .before .before .before .before .before .before .before .before .before .before in undo-way _ _ _ _ (s .pre .0) _ _ (within s) _ _ (s .pre .1 .1) (c .before .before .before .before .before .before .before .before .before .before .before .if1 .left) _ (c .before .before .before .before .before .before .return-to .ensures)
 
 pub point-undo-on-spec : {M : Type 1} → statement M
 point-undo-on-spec =
     tie.close
     (tie.spec
-    last-place-requires
-    entry-at-requires
-    undo-on-requires
-    drop-past-requires
+    returns
+    sub-return-to
+    return-to-requires
     same-length
     same-length-2
     same-length-3
-    returns
-    same-length-4
     returns-2)

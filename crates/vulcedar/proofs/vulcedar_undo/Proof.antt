@@ -48,10 +48,10 @@ use Rattle.journal.proofs.entry_at.Symbol.{name as #entry-at}
 use Rattle.journal.proofs.entry_at.Met as entry-thm
 use Rattle.keeping.specs.Keeping.{undoOwn}
 use Rattle.vulcedar.specs.Result.{AsUndone}
-use Rattle.journal.proofs.last_place as last′
-use Rattle.journal.proofs.last_place.Symbol as last-def
-use Rattle.journal.proofs.last_place.Symbol.{name as #last-place}
-use Rattle.journal.proofs.last_place.Met as last-thm
+use Rattle.vulcedar.proofs.last_place as last′
+use Rattle.vulcedar.proofs.last_place.Symbol as last-def
+use Rattle.vulcedar.proofs.last_place.Symbol.{name as #last-place}
+use Rattle.vulcedar.proofs.last_place.Met as last-thm
 use Rattle.vulcedar.proofs.undo_result as result′
 use Rattle.vulcedar.proofs.undo_result.Symbol as result-def
 use Rattle.vulcedar.proofs.undo_result.Symbol.{name as #undo-result}
@@ -245,6 +245,6 @@ vulcedar-undo-spec 𝓤 H 𝓜 𝓖 𝓡 =
     entered 𝓤 H (tripleOf 𝓤 H (𝓖 .A) undo′.signature (undo′.spec 𝓤 H (𝓖 .A) (𝓜 .mem) (𝓡 .run)))
     (tables 𝓤 H 𝓜 𝓡 code.env .C) (tables 𝓤 H 𝓜 𝓡 code.env .Λ) #vulcedar-undo code.function (code.unfolded 𝓤 H 𝓜 𝓡)
     (undo-meets 𝓤 H (𝓖 .A) (givenOf 𝓤 H 𝓜 𝓖) (𝓜 .mem) (𝓡 .run) (tablesOf 𝓤 H 𝓜 (tables 𝓤 H 𝓜 𝓡 code.env))
-    (cited 𝓤 H (Last 𝓤 H (𝓖 .A) (𝓜 .mem) (𝓡 .run)) 𝓜 𝓡 code.env #last-place last-def.routine code.calls-journal·last-place (last-thm.met 𝓤 H 𝓜 𝓖 𝓡))
+    (cited 𝓤 H (Last 𝓤 H (𝓖 .A) (𝓜 .mem) (𝓡 .run)) 𝓜 𝓡 code.env #last-place last-def.routine code.calls-vulcedar·last-place (last-thm.met 𝓤 H 𝓜 𝓖 𝓡))
     (cited 𝓤 H (At 𝓤 H (𝓖 .A) (𝓜 .mem) (𝓡 .run)) 𝓜 𝓡 code.env #entry-at entry-def.routine code.calls-journal·entry-at (entry-thm.met 𝓤 H 𝓜 𝓖 𝓡))
     (cited 𝓤 H (Result 𝓤 H (𝓖 .A) (𝓜 .mem) (𝓡 .run)) 𝓜 𝓡 code.env #undo-result result-def.routine code.calls-vulcedar·undo-result (result-thm.met 𝓤 H 𝓜 𝓖 𝓡)))

@@ -1,8 +1,8 @@
 -- Assumes nothing.
 use native.Mathlib.Omega.{arith}
 use borrow.Author.Needs.{needs}
-use Rattle.journal.proofs.last_place.Statement.{statement}
-use Rattle.journal.proofs.last_place.Tie as tie
+use Rattle.vulcedar.proofs.last_place.Statement.{statement}
+use Rattle.vulcedar.proofs.last_place.Tie as tie
 
 returns : tie.Need-returns
 returns c = omega (arith, c .if1 .taken)
