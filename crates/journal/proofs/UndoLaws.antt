@@ -29,7 +29,7 @@ use Rattle.job.proofs.StateLaws.{byte-at, row-hear, row-unhear}
 use Rattle.job.proofs.StepLaws.{happen-leaves, tell-leaves, unfit-refused, refused-leaves}
 use Rattle.journal.specs.declared.Entry.{Entry}
 use Rattle.journal.specs.Journal.{noEntry, kept, undone, target, isSet, entryOf, stepOn, keepFits, keptIf, keepOf, sited, entryFault, undoFits, undoNumber, takenBack, undoOf}
-use Rattle.journal.specs.Session.{lent, keptLent, keptNumber}
+use Rattle.journal.specs.Session.{lent, keptLent, undoneLent, keptNumber}
 
 module _ (p : List ℕ) (lay : Layout) (st : List ℕ) (code node : ℕ) where
   -- a step that passed was valid
@@ -179,6 +179,11 @@ module _ (p : List ℕ) (lay : Layout) (row : ℕ → ℕ) where
         (λ z. rw z)
 
   -- THE LAST STEP TAKEN BACK
+  -- a take-back that is refused leaves everything
+  pub undo-refused : (st : List ℕ) (es : List Entry) (k : ℕ) → (undoOf p lay row st es k .number ≡ 0 → ⊥) → undoneLent es (undoOf p lay row st es k) ≡ lent st es k
+  unfolding undoOf
+  undo-refused st es k h = cases (decided (eqb (undoNumber p lay row st es k) 0)) (λ z. absurd (h (rw z))) (λ z. rw z)
+
   -- the entry e keeps a step that passed on st
   pub record KeepsAt (st : List ℕ) (e : Entry) : Type 0 where
     pub pass : numberOn st (e .code) (e .node) (e .site) ≡ 0

@@ -22,7 +22,7 @@ Small bs = (i : ℕ) → getD bs i 0 < 256
 digit : (a b c d : ℕ) → a < 256 → b < 256 → a + 256 * c ≡ b + 256 * d → (a ≡ b) × (c ≡ d)
 digit a b c d l m e = (omega arith, omega arith)
 
-pub half-small : (bs : List ℕ) (at : ℕ) → Small bs → halfAt bs at < 4294967296
+half-small : (bs : List ℕ) (at : ℕ) → Small bs → halfAt bs at < 4294967296
 unfolding halfAt
 half-small bs at s = omega (arith, s at, s (at + 1), s (at + 2), s (at + 3))
 

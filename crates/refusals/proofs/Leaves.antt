@@ -7,7 +7,6 @@ use borrow.Author.Tests.{ne-eqb, lt-ltb}
 use lib.Dec.{eqb, leb, ltb}
 use lib.ListN.{length, drop}
 use Rattle.lists.specs.Seq.{table}
-use Rattle.lists.proofs.Logic.{cases, decided}
 use Rattle.plan.specs.Plan.{size, depth}
 use Rattle.event.specs.Event.{eventOf}
 use Rattle.event.specs.Site.{own}
@@ -35,9 +34,8 @@ use Rattle.job.specs.Simulation.{stepFrom, replayFrom, numbersFrom, endMarks}
 use Rattle.job.proofs.StepLaws.{refused-leaves}
 use Rattle.simulation.specs.Run.{simulateOf, recordByNumber, recordByInto, stepsOf, Ran, ran, runNumber, runOf}
 use Rattle.journal.specs.declared.Entry.{Entry}
-use Rattle.journal.specs.Journal.{undoNumber, undoOf}
 use Rattle.journal.specs.Session.{Lent}
-use Rattle.journal.proofs.UndoLaws.{keep-refused}
+use Rattle.journal.proofs.UndoLaws.{keep-refused, undo-refused}
 use Rattle.keeping.specs.Keeping.{keepOwn, undoOwn}
 use Rattle.script.specs.Script.{rehearseInto, textNumber, textLines, TextRun, textRun, refused, textDone, linesInto, runTextInto}
 use Rattle.refusals.specs.Claim.{RefusalsLeave, guardNumber, eventNumber, messageNumber, simulateNumber, keepNumber, ruleNumber}
@@ -165,8 +163,7 @@ keep-left p st es k code node q h =
     (ap (λ (l : Lent). l .state) e, ap (λ (l : Lent). l .entries) e, ap (λ (l : Lent). l .count) e)
 
 undo-left : (p st : List ℕ) (es : List Entry) (k : ℕ) → (undoOwn p st es k .number ≡ 0 → ⊥) → (undoOwn p st es k .state ≡ st) × (undoOwn p st es k .count ≡ k)
-unfolding undoOf
-undo-left p st es k h = cases (decided (eqb (undoNumber p (own p) (λ q. q) st es k) 0)) (λ z. absurd (h (rw z))) (λ z. rw z (refl, refl))
+undo-left p st es k h = let e = undo-refused p (own p) (λ q. q) st es k h in (ap (λ (l : Lent). l .state) e, ap (λ (l : Lent). l .count) e)
 
 pub refusals-leave : RefusalsLeave
 refusals-leave = record {

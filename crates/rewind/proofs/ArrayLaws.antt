@@ -11,6 +11,10 @@ pub array-length : (bs : List (List ℕ)) → length (entriesOf bs) ≡ length b
 unfolding entriesOf
 array-length bs = length-map bs entryIn
 
+-- so a count is in the entries if it is in the arrays
+pub array-within : (bs : List (List ℕ)) (k : ℕ) → k ≤ length bs → k ≤ length (entriesOf bs)
+array-within bs k l = rw (array-length bs) l
+
 -- below the end what is read past it does not matter
 at-any : (bs : List (List ℕ)) (i : ℕ) (d : List ℕ) → i < length bs → getD bs i d ≡ getD bs i []
 at-any [] i d l = absurd (omega arith)

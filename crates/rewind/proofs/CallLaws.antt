@@ -14,7 +14,7 @@ use Rattle.event.specs.Site.{Layout}
 use Rattle.job.specs.Simulation.{stateFits}
 use Rattle.layout.specs.Layout.{Laid}
 use Rattle.journal.specs.declared.Entry.{Entry}
-use Rattle.journal.specs.Journal.{Undone, undone, undoNumber, undoOf}
+use Rattle.journal.specs.Journal.{Undone, undone, undoOf}
 use Rattle.keeping.proofs.UndoLaws.{undo-none}
 use Rattle.points.specs.Points.{points, inUse, placeAt, slotOf, pointsFit, dropped}
 use Rattle.points.proofs.FirstLaws.{slot-has}
@@ -22,12 +22,6 @@ use Rattle.points.proofs.Main.{points-claim}
 use Rattle.rewind.specs.Return.{Returned, returned, returnedBy, pointUndoFits, pointUndoOf, backOf, backFits, pointBackOf}
 use Rattle.rewind.specs.Rewound.{lastOf, firstFault, rewound}
 use Rattle.rewind.proofs.BackLaws.{back-dry}
-
--- a take-back that is refused leaves state and count
-pub undo-leaves : (p : List ℕ) (lay : Layout) (row : ℕ → ℕ) (st : List ℕ) (es : List Entry) (k : ℕ) → (undoOf p lay row st es k .number ≡ 0 → ⊥) →
-    undoOf p lay row st es k ≡ undone (undoOf p lay row st es k .number) st k
-unfolding undoOf
-undo-leaves p lay row st es k h = cases (decided (eqb (undoNumber p lay row st es k) 0)) (λ z. absurd (h (rw z))) (λ z. rw z)
 
 -- what was taken back, or all left
 module _ (u : Undone) (st : List ℕ) (k : ℕ) (names places : List ℕ) where

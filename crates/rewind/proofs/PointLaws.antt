@@ -14,11 +14,13 @@ use Rattle.event.specs.Site.{Layout}
 use Rattle.job.specs.Simulation.{stateFits}
 use Rattle.journal.specs.declared.Entry.{Entry}
 use Rattle.journal.specs.Journal.{Undone, undoFits, undoNumber, undoOf}
+use Rattle.journal.specs.Session.{Lent}
+use Rattle.journal.proofs.UndoLaws.{undo-refused}
 use Rattle.points.specs.Points.{placeAt, slotOf, pointsFit}
 use Rattle.points.proofs.Main.{points-claim}
 use Rattle.rewind.specs.Return.{Returned, returnedBy, pointUndoFits, pointUndoOf, backOf, backFits, pointBackOf}
 use Rattle.rewind.specs.Session.{PointsLeft}
-use Rattle.rewind.proofs.CallLaws.{undo-leaves, returned-done, returned-left}
+use Rattle.rewind.proofs.CallLaws.{returned-done, returned-left}
 
 module _ (p : List ℕ) (lay : Layout) (row : ℕ → ℕ) (st : List ℕ) (es : List Entry) (k : ℕ) (names places : List ℕ) where
   -- what was taken back drops the points past the new count
@@ -59,7 +61,7 @@ module _ (p : List ℕ) (lay : Layout) (row : ℕ → ℕ) (st : List ℕ) (es :
         (λ e. let bad = eqb-false (u .number) 0 e in rw (returned-left u st k names places bad) (refl, sym (leaves bad .0), sym (leaves bad .1)))
 
     left-so : (undoOf p lay row st es k .number ≡ 0 → ⊥) → (undoOf p lay row st es k .state ≡ st) × (undoOf p lay row st es k .count ≡ k)
-    left-so bad = let u = undo-leaves p lay row st es k bad in (ap (λ (x : Undone). x .state) u, ap (λ (x : Undone). x .count) u)
+    left-so bad = let u = undo-refused p lay row st es k bad in (ap (λ (l : Lent). l .state) u, ap (λ (l : Lent). l .count) u)
 
     unfit : (undoFits p lay row st es k ≡ 0 → ⊥) → undoOf p lay row st es k .number ≡ undoFits p lay row st es k
     unfolding undoOf undoNumber

@@ -174,6 +174,8 @@ pub struct Jobs {
     pub moved: u64,
     /// Points that were dropped.
     pub dropped: u64,
+    /// Slots in use that the caller freed.
+    pub freed: u64,
     /// New names that had no free slot.
     pub without_slot: u64,
     /// Goings back that passed.
@@ -313,8 +315,8 @@ impl fmt::Display for Tally {
         )?;
         writeln!(
             out,
-            "points: {} named ({} moved), {} dropped; {} had no slot",
-            jobs.named, jobs.moved, jobs.dropped, jobs.without_slot
+            "points: {} named ({} moved), {} dropped, {} freed; {} had no slot",
+            jobs.named, jobs.moved, jobs.dropped, jobs.freed, jobs.without_slot
         )?;
         writeln!(
             out,

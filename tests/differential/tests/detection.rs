@@ -5,10 +5,30 @@ use differential::Reference;
 use differential::broken::{Broken, Mistake};
 use differential::run::{CASES_PART, HOSTS_PART, JOURNALS_PART, ONLY_CHILD_PART, POINTS_PART};
 use differential::run::{Options, run, run_against};
+use differential::tally::Tally;
 
 /// The mistakes of the calls with points; they stand at the end.
 fn of_points() -> impl Iterator<Item = Mistake> {
     Mistake::ALL.into_iter().skip_while(|&mistake| mistake != Mistake::MovedPointStandsTwice)
+}
+
+/// These parts find nothing between two copies of the reference, in each of
+/// which something is counted, and each of these mistakes even if both sides
+/// make it.
+fn parts_find(parts: [u64; 2], seed: u64, counted: fn(&Tally) -> u64, mistakes: &[Mistake]) {
+    let [first, count] = parts;
+    let parts = || (0..count).map(|place| first + 32 * place);
+    let only = |part| Options { seed, only: Some(part), ..Options::default() };
+    for part in parts() {
+        let tally = run(Reference, only(part));
+        assert_eq!(tally.differences(), 0, "{:#?}", tally.described());
+        assert!(counted(&tally) > 0);
+    }
+    for &mistake in mistakes {
+        let found =
+            |part| run_against(Broken::new(mistake), Broken::new(mistake), only(part)).differences() > 0;
+        assert!(parts().any(found), "{mistake:?} on both sides is not found");
+    }
 }
 
 #[test]
@@ -26,7 +46,7 @@ fn two_copies_of_the_reference_agree() {
     assert!(tally.jobs.named > 1000 && tally.jobs.moved > 300, "{}", tally.jobs.named);
     assert!(tally.jobs.dropped > 300 && tally.jobs.without_slot > 30, "{}", tally.jobs.dropped);
     assert!(tally.jobs.gone_back > 100 && tally.jobs.gone_over > 300, "{}", tally.jobs.gone_over);
-    assert!(tally.jobs.tried > 300, "{}", tally.jobs.tried);
+    assert!(tally.jobs.tried > 300 && tally.jobs.freed > 100, "{}", tally.jobs.freed);
 }
 
 #[test]
@@ -179,13 +199,6 @@ fn cases_have_their_answers() {
 /// back from a fresh start, even if both sides do it.
 #[test]
 fn moves_are_held_against_what_remains() {
-    let parts = || (0..10).map(|place| JOURNALS_PART + 32 * place);
-    let only = |part| Options { seed: 17, only: Some(part), ..Options::default() };
-    for part in parts() {
-        let tally = run(Reference, only(part));
-        assert_eq!(tally.differences(), 0, "{:#?}", tally.described());
-        assert!(tally.jobs.kept > 0);
-    }
     let mistakes = [
         Mistake::FullJournalForgets,
         Mistake::RefusedKeepWrites,
@@ -201,24 +214,13 @@ fn moves_are_held_against_what_remains() {
         Mistake::UndoTakesTheNextPlace,
         Mistake::UndoRewritesTheEntry,
     ];
-    for mistake in mistakes {
-        let found =
-            |part| run_against(Broken::new(mistake), Broken::new(mistake), only(part)).differences() > 0;
-        assert!(parts().any(found), "{mistake:?} on both sides is not found");
-    }
+    parts_find([JOURNALS_PART, 10], 17, |tally| tally.jobs.kept, &mistakes);
 }
 
 /// Lists of moves with points alone find what is wrong with points from a fresh
 /// start, and with the take-backs that they rest on, even if both sides do it.
 #[test]
 fn points_are_held_against_the_moves() {
-    let parts = || (0..20).map(|place| POINTS_PART + 32 * place);
-    let only = |part| Options { seed: 18, only: Some(part), ..Options::default() };
-    for part in parts() {
-        let tally = run(Reference, only(part));
-        assert_eq!(tally.differences(), 0, "{:#?}", tally.described());
-        assert!(tally.jobs.named > 0);
-    }
     let mistakes = [
         Mistake::MovedPointStandsTwice,
         Mistake::KnownNameNeedsAFreeSlot,
@@ -252,24 +254,13 @@ fn points_are_held_against_the_moves() {
         Mistake::PickUndoAtTheChild,
         Mistake::UndoClearsTheByte,
     ];
-    for mistake in mistakes {
-        let found =
-            |part| run_against(Broken::new(mistake), Broken::new(mistake), only(part)).differences() > 0;
-        assert!(parts().any(found), "{mistake:?} on both sides is not found");
-    }
+    parts_find([POINTS_PART, 20], 18, |tally| tally.jobs.named, &mistakes);
 }
 
 /// Hosts with rows of their own find what only the simulation does wrong, or
 /// only a site, even if both sides do.
 #[test]
 fn hosts_are_held_against_the_simulation() {
-    let parts = || (0..20).map(|place| HOSTS_PART + 32 * place);
-    let only = |part| Options { seed: 16, only: Some(part), ..Options::default() };
-    for part in parts() {
-        let tally = run(Reference, only(part));
-        assert_eq!(tally.differences(), 0, "{:#?}", tally.described());
-        assert!(tally.jobs.of_hosts > 0);
-    }
     let mistakes = [
         Mistake::HearRefusesRepeats,
         Mistake::SimulationSeesAllRows,
@@ -278,11 +269,7 @@ fn hosts_are_held_against_the_simulation() {
         Mistake::AllEndedAtTheRootsStart,
         Mistake::PretendsAfterTheFirst,
     ];
-    for mistake in mistakes {
-        let found =
-            |part| run_against(Broken::new(mistake), Broken::new(mistake), only(part)).differences() > 0;
-        assert!(parts().any(found), "{mistake:?} on both sides is not found");
-    }
+    parts_find([HOSTS_PART, 20], 16, |tally| tally.jobs.of_hosts, &mistakes);
 }
 
 /// Trying every row of an only child finds a turn-down that passes, and

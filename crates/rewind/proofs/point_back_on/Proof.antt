@@ -4,15 +4,11 @@ use native.Mathlib.Omega.{arith}
 use lib.ListN.{length}
 use Rattle.points.proofs.NamingLaws.{fit-long}
 use Rattle.rewind.specs.Arrays.{entriesOf}
-use Rattle.rewind.proofs.ArrayLaws.{array-length}
+use Rattle.rewind.proofs.ArrayLaws.{array-within}
 use Rattle.rewind.proofs.CallLaws.{word-some, place-within, back-unknown, back-way}
 use borrow.Author.Needs.{needs}
 use Rattle.rewind.proofs.point_back_on.Statement.{statement}
 use Rattle.rewind.proofs.point_back_on.Tie as tie
-
--- the count is in the entries
-within : (c : tie.Start) → c .args .count .now ≤ length (entriesOf (c .args .entries .now))
-within c = rw (array-length (c .args .entries .now)) (c .pre .1 .1)
 
 -- a slot was found
 found : (c : tie.Else1) → c .before .slot-of .result < 16
@@ -29,7 +25,7 @@ same-length-2 c = search needs
 
 returns : tie.Need-returns
 returns c = let s = c .before .before .before .before .before .before .before .before .before .before .before in
-    back-unknown _ _ _ _ (s .pre .0) _ _ (within s) _ _ (s .pre .1 .2) _ (s .pre .1 .0) _ (c .before .slot-of .ensures .0) (omega (arith, c .if1 .taken))
+    back-unknown _ _ _ _ (s .pre .0) _ _ (array-within (s .args .entries .now) _ (s .pre .1 .1)) _ _ (s .pre .1 .2) _ (s .pre .1 .0) _ (c .before .slot-of .ensures .0) (omega (arith, c .if1 .taken))
 
 mul-place : tie.Need-mul-place
 mul-place c = search needs
@@ -56,7 +52,7 @@ same-length-5 c = search needs
 
 returns-2 : tie.Need-returns-2
 returns-2 c = let e = c .before .before .before .before .before .before .before .before .before .before .before .before in let s = e .before .before .before .before .before .before .before .before .before .before .before in
-    back-way _ _ _ _ (s .pre .0) _ _ (within s) _ _ (s .pre .1 .2) _ (s .pre .1 .0) _ (e .before .slot-of .ensures .0) (found e) _ (c .before .before .before .before .before .before .return-to .ensures)
+    back-way _ _ _ _ (s .pre .0) _ _ (array-within (s .args .entries .now) _ (s .pre .1 .1)) _ _ (s .pre .1 .2) _ (s .pre .1 .0) _ (e .before .slot-of .ensures .0) (found e) _ (c .before .before .before .before .before .before .return-to .ensures)
 
 pub point-back-on-spec : {M : Type 1} → statement M
 point-back-on-spec =

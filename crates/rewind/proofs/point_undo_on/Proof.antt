@@ -4,18 +4,14 @@ use native.Mathlib.Omega.{arith}
 use lib.ListN.{length}
 use Rattle.points.proofs.NamingLaws.{fit-long}
 use Rattle.rewind.specs.Arrays.{entriesOf}
-use Rattle.rewind.proofs.ArrayLaws.{array-length}
+use Rattle.rewind.proofs.ArrayLaws.{array-within}
 use Rattle.rewind.proofs.CallLaws.{undo-empty, undo-way}
 use borrow.Author.Needs.{needs}
 use Rattle.rewind.proofs.point_undo_on.Statement.{statement}
 use Rattle.rewind.proofs.point_undo_on.Tie as tie
 
--- the count is in the entries
-within : (c : tie.Start) → c .args .count .now ≤ length (entriesOf (c .args .entries .now))
-within c = rw (array-length (c .args .entries .now)) (c .pre .1 .0)
-
 returns : tie.Need-returns
-returns c = let s = c .before .before .before .before .before .before .before .before in undo-empty _ _ _ _ (s .pre .0) _ _ (within s) _ _ (s .pre .1 .1) (c .if1 .taken)
+returns c = let s = c .before .before .before .before .before .before .before .before in undo-empty _ _ _ _ (s .pre .0) _ _ (array-within (s .args .entries .now) _ (s .pre .1 .0)) _ _ (s .pre .1 .1) (c .if1 .taken)
 
 sub-return-to : tie.Need-sub-return-to
 sub-return-to c = search needs
@@ -33,7 +29,7 @@ same-length-3 : tie.Need-same-length-3
 same-length-3 c = search needs
 
 returns-2 : tie.Need-returns-2
-returns-2 c = let s = c .before .before .before .before .before .before .before .before .before .before .before .before .before .before .before .before .before .before .before in undo-way _ _ _ _ (s .pre .0) _ _ (within s) _ _ (s .pre .1 .1) (c .before .before .before .before .before .before .before .before .before .before .before .if1 .left) _ (c .before .before .before .before .before .before .return-to .ensures)
+returns-2 c = let s = c .before .before .before .before .before .before .before .before .before .before .before .before .before .before .before .before .before .before .before in undo-way _ _ _ _ (s .pre .0) _ _ (array-within (s .args .entries .now) _ (s .pre .1 .0)) _ _ (s .pre .1 .1) (c .before .before .before .before .before .before .before .before .before .before .before .if1 .left) _ (c .before .before .before .before .before .before .return-to .ensures)
 
 pub point-undo-on-spec : {M : Type 1} → statement M
 point-undo-on-spec =

@@ -1,5 +1,5 @@
 //! Lists of moves with points: steps that are kept and taken back, places that
-//! are named, and goings back to them. After every move each name must have the
+//! are named, slots that the caller frees, and goings back. After every move each name must have the
 //! point that the moves gave it; and going back to any point must give the
 //! state that the steps up to its place give from a fresh start.
 
@@ -59,6 +59,8 @@ impl<S: Implementation, R: Implementation> Pointed<'_, S, R> {
             let back = if is_full { 30 } else { self.moves.back };
             if self.moves.random.chance(self.naming) {
                 self.name()?;
+            } else if self.moves.random.chance(2) {
+                self.free()?;
             } else if self.moves.random.chance(self.going) {
                 self.go_back()?;
             } else if self.moves.random.chance(back) {
@@ -99,6 +101,22 @@ impl<S: Implementation, R: Implementation> Pointed<'_, S, R> {
         }
         self.has_result("a naming", result, if has_slot { 0 } else { 20 })?;
         self.has_its_points("a naming")
+    }
+
+    /// Frees the slot of a point, as a host may without a call: its name stays
+    /// where it is and has no point any more.
+    fn free(&mut self) -> Result<(), Parted> {
+        let mut places = self.points.places.subject.bytes().to_vec();
+        let names = self.points.names.subject.bytes().to_vec();
+        let used: Vec<usize> = (0..SLOTS).filter(|&slot| places[slot] != 0).collect();
+        if !used.is_empty() {
+            let slot = self.moves.random.one_of(&used);
+            places[slot] = 0;
+            self.points.load(&names, &places);
+            self.ledger.remove(&names[8 * slot..][..8]);
+            self.moves.trial.tally.jobs.freed += 1;
+        }
+        self.has_its_points("a freed slot")
     }
 
     /// Takes back one step, a few, or all and one more.
