@@ -1,5 +1,5 @@
 /*
- * Vulcedar 1.2.0: jobs that follow a plan, decided by the sites that do the work.
+ * Vulcedar 1.3.0: jobs that follow a plan, decided by the sites that do the work.
  *
  * A plan is a tree of tasks and blocks. Every node has a site; a site keeps one row of bytes, what it has heard, and
  * decides the events of its node from that row alone. This header is all that a host needs; docs/GUIDE.md shows how a
@@ -35,6 +35,15 @@
  * lent, there is no such point; a host may also free a slot by storing 0 as its place. vulcedar_undo knows no points and
  * leaves those that it passes above the count: in a journal with points, take back with vulcedar_point_undo.
  *
+ * DESKS. Sites that share a machine can share a row. A plan with desks has three bytes a node: kind, parent, and the node's
+ * desk, 0 to VULCEDAR_DESK_HIGHEST; without the third bytes it is its plain plan, of two bytes a node. A desk is in use if a
+ * node has it, and each desk in use has one row for all of its sites. What passes at a desk is heard there at once. The
+ * state of a simulation is the rows of the desks in use, lowest desk first: desks in use times nodes bytes. The calls named
+ * vulcedar_desk_.. take plans with desks. In their parameters, entries and results a desk stands where the others have a
+ * site, and 8 refuses every desk that is not in use. All other calls take plain plans: a desk hears by vulcedar_hear with
+ * its row and the plain plan. A plan in which each node has its own number for a desk is treated by the calls with desks
+ * just as its plain plan is by the others.
+ *
  * RECORDS. Every node's mark (enum vulcedar_mark) and class (enum vulcedar_class, how long its work is kept). A block has
  * no class. A task's class is what a table has for the mark as which the task counts: its own mark, unless it committed;
  * a committed task counts as turned down if a block above it (its parent, and so on up to the root) failed or was turned
@@ -48,11 +57,13 @@
  *
  * RESULTS. Every call but vulcedar_version answers 32 bits:
  *   bits 0-7    VULCEDAR_NUMBER: an enum vulcedar_number, 0 if the call passed, else why it was refused
- *   bits 8-15   VULCEDAR_SITE: the event's site; for vulcedar_guard, VULCEDAR_GUARD_RULE: the guard's rule
+ *   bits 8-15   VULCEDAR_SITE: the event's site, of a call with desks VULCEDAR_DESK: its desk; for vulcedar_guard,
+ *               VULCEDAR_GUARD_RULE: the guard's rule
  *   bits 16-31  VULCEDAR_VALUE: what the call says there
  * Bits 8-15 are 0 also where they say nothing, and 0 is a site too, so let the number tell: a result of vulcedar_step, or
  * of vulcedar_simulate or vulcedar_keep with an event, has a site if its number is VULCEDAR_PASSED, VULCEDAR_BARRED or
- * VULCEDAR_UNMET, and no other result has one.
+ * VULCEDAR_UNMET; one of vulcedar_desk_step, vulcedar_desk_simulate or vulcedar_desk_keep then has the event's desk there;
+ * and no other result has one.
  * The lowest number that fits is answered, unless a call says another order. A later version may have more numbers: take
  * a number that you do not know as a refusal. A refused call leaves every byte of every buffer as it was.
  *
@@ -78,7 +89,7 @@ extern "C" {
 
 /* The version of this header. vulcedar_version() is that of the library that is linked. */
 #define VULCEDAR_VERSION_MAJOR 1
-#define VULCEDAR_VERSION_MINOR 2
+#define VULCEDAR_VERSION_MINOR 3
 #define VULCEDAR_VERSION_PATCH 0
 #define VULCEDAR_VERSION (65536u * VULCEDAR_VERSION_MAJOR + 256u * VULCEDAR_VERSION_MINOR + VULCEDAR_VERSION_PATCH)
 
@@ -122,14 +133,14 @@ enum vulcedar_class {
 
 enum vulcedar_number {
     VULCEDAR_PASSED = 0,
-    VULCEDAR_BAD_LENGTH = 1,       /* the plan has no byte, an odd number of them, or more than 320 */
+    VULCEDAR_BAD_LENGTH = 1,       /* the plan has no byte, an odd number of them, or more than 320; with desks: none, no multiple of 3, or above 480 */
     VULCEDAR_BAD_KIND = 2,         /* a node's kind is none */
     VULCEDAR_BAD_PARENT = 3,       /* the root has a parent, or a node's parent does not stand before it */
     VULCEDAR_TASK_PARENT = 4,      /* a task has a child */
     VULCEDAR_BAD_CHILDREN = 5,     /* a block has too few or too many children */
     VULCEDAR_TOO_DEEP = 6,         /* a node lies deeper than 32 */
     VULCEDAR_BAD_BUFFER = 7,       /* a buffer has not the length that the call says, a journal is full, or points are not right */
-    VULCEDAR_NOT_IN_PLAN = 8,      /* there is no such code, or the plan has no such node or site */
+    VULCEDAR_NOT_IN_PLAN = 8,      /* there is no such code, or the plan has no such node or site, or the desk is not in use */
     VULCEDAR_NOT_APPLICABLE = 9,   /* the node has no such event */
     VULCEDAR_BARRED = 10,          /* it happened already, or something that rules it out did; this will not change, unless a step is taken back */
     VULCEDAR_UNMET = 11,           /* the site has not heard all that the event waits for; this may change */
@@ -140,15 +151,17 @@ enum vulcedar_number {
     VULCEDAR_NOTHING_TO_UNDO = 16, /* the journal has no step left to take back */
     VULCEDAR_UNKNOWN_POINT = 19,   /* no point has this name */
     VULCEDAR_NO_FREE_POINT = 20,   /* sixteen other points are in use */
-    VULCEDAR_BAD_TABLE = 21        /* the table of classes is not one; found before the plan's own numbers */
+    VULCEDAR_BAD_TABLE = 21,       /* the table of classes is not one; found before the plan's own numbers */
+    VULCEDAR_BAD_DESK = 22         /* a plan with desks has a desk above VULCEDAR_DESK_HIGHEST; found behind 6 and before 7 */
 };
 
 /* The parts of a result r, a uint32_t. */
 #define VULCEDAR_NUMBER(r) ((r) & 0xffu)
 #define VULCEDAR_SITE(r) ((r) >> 8 & 0xffu)
+#define VULCEDAR_DESK(r) ((r) >> 8 & 0xffu)
 #define VULCEDAR_VALUE(r) ((r) >> 16)
 
-/* The rule in a result of vulcedar_rule, and in one of vulcedar_step, vulcedar_simulate or vulcedar_keep whose event passed. */
+/* The rule in a result of vulcedar_rule, and in one of a step, a step of a simulation or a kept step whose event passed. */
 #define VULCEDAR_RULE(r) ((r) >> 16 & 0xffu)
 
 /* The rule in a result of vulcedar_guard that passed. */
@@ -157,11 +170,12 @@ enum vulcedar_number {
 /* The parent byte of the root. */
 #define VULCEDAR_NO_PARENT 0xffu
 
-/* The site of vulcedar_simulate, of vulcedar_keep and of an entry that stands for "the event happens". */
+/* The site, or desk, of a step of a simulation, of a kept step and of an entry that stands for "the event happens". */
 #define VULCEDAR_HAPPENS 0xffu
 
 /* Limits. No guard has more bytes than VULCEDAR_GUARD_MOST. */
 #define VULCEDAR_NODES_MOST 160u
+#define VULCEDAR_DESK_HIGHEST 0x9fu
 #define VULCEDAR_CHILDREN_MOST 32u
 #define VULCEDAR_DEPTH_MOST 32u
 #define VULCEDAR_GUARD_MOST 290u
@@ -334,6 +348,55 @@ uint32_t vulcedar_pass_record(const uint8_t *plan, size_t plan_len, const uint8_
  */
 uint32_t vulcedar_record_by(const uint8_t *plan, size_t plan_len, const uint8_t *table, size_t table_len, const uint8_t *state,
                             size_t state_len, uint8_t *marks, size_t marks_len, uint8_t *classes, size_t classes_len);
+
+/*
+ * PLANS WITH DESKS. What each call below does and answers is said with the call of the same name without desk_: the
+ * parameters are the same, plan is a plan with desks, state has desks in use times nodes bytes, and a desk stands for a
+ * site. The numbers have the same order; 22 comes behind 6 and before 7.
+ */
+
+/* Checks a plan with desks: 0, or 1 to 6, or 22. */
+uint32_t vulcedar_desk_check(const uint8_t *plan, size_t plan_len);
+
+/*
+ * An event wants to happen at its desk. row is the row of the desk of the node itself, for a pick that of the desk of the
+ * node's parent. 1 to 6, 22, 7 to 11.
+ */
+uint32_t vulcedar_desk_step(const uint8_t *plan, size_t plan_len, uint32_t code, uint32_t node, uint8_t *row, size_t row_len);
+
+/*
+ * A step of a simulation of all desks. desk VULCEDAR_HAPPENS: the event happens, at its own desk; any other desk hears of
+ * it, refused with 12 unless it happened. 1 to 6, 22, 7 to 12.
+ */
+uint32_t vulcedar_desk_simulate(const uint8_t *plan, size_t plan_len, uint32_t code, uint32_t node, uint32_t desk, uint8_t *state,
+                                size_t state_len);
+
+/* A step that is kept in a journal; the entry's site is the desk. 1 to 6, 22, 7 to 12. */
+uint32_t vulcedar_desk_keep(const uint8_t *plan, size_t plan_len, uint32_t code, uint32_t node, uint32_t desk, uint8_t *state,
+                            size_t state_len, vulcedar_entry *entries, size_t entries_len, size_t *count);
+
+/* Takes back the last step of a journal. 1 to 6, 22, 7, 16, 8, 9. */
+uint32_t vulcedar_desk_undo(const uint8_t *plan, size_t plan_len, uint8_t *state, size_t state_len, const vulcedar_entry *entries,
+                            size_t entries_len, size_t *count);
+
+/* The same in a journal with points; they are named by vulcedar_point_name. 1 to 6, 22, 7, 16, 8, 9. */
+uint32_t vulcedar_desk_point_undo(const uint8_t *plan, size_t plan_len, uint8_t *state, size_t state_len,
+                                  const vulcedar_entry *entries, size_t entries_len, size_t *count, uint8_t *names,
+                                  size_t names_len, uint64_t *places, size_t places_len);
+
+/* Goes back to a point. 1 to 6, 22, 7, 19, then the first of 8 and 9 that is met. */
+uint32_t vulcedar_desk_point_back(const uint8_t *plan, size_t plan_len, const uint8_t *name, size_t name_len, uint8_t *state,
+                                  size_t state_len, const vulcedar_entry *entries, size_t entries_len, size_t *count,
+                                  uint8_t *names, size_t names_len, uint64_t *places, size_t places_len);
+
+/* The record: every node's mark by its own desk's row, and its class by the common table. 1 to 6, 22, 7. */
+uint32_t vulcedar_desk_record(const uint8_t *plan, size_t plan_len, const uint8_t *state, size_t state_len, uint8_t *marks,
+                              size_t marks_len, uint8_t *classes, size_t classes_len);
+
+/* The record, classed by the house's own table. 21, then 1 to 6, 22, 7. */
+uint32_t vulcedar_desk_record_by(const uint8_t *plan, size_t plan_len, const uint8_t *table, size_t table_len,
+                                 const uint8_t *state, size_t state_len, uint8_t *marks, size_t marks_len, uint8_t *classes,
+                                 size_t classes_len);
 
 /* The text of a simulation never has more bytes than this; what it prints always fits into the other. */
 #define VULCEDAR_TEXT_MOST 32768u
