@@ -1,0 +1,4 @@
+-- Laws of the calls, in the order in which they build on one another.
+pub mod SplitLaws
+pub mod MarkingLaws
+pub mod NumberLaws
