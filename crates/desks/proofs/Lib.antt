@@ -1,1 +1,2 @@
--- Laws of desks.
+-- Laws of desks, and that its claims hold.
+pub mod AlikeLaws
