@@ -1,2 +1,4 @@
--- Laws of desks, and that its claims hold.
+-- Laws that upper crates cite, and that the claims hold.
 pub mod AlikeLaws
+pub mod RankLaws
+pub mod DeskLaws
