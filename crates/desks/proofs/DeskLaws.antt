@@ -1,14 +1,14 @@
 -- A plan with desks as a plan of two bytes a node with a layout (rules N1 to N4): the plain plan, the check, and the rows. Assumes nothing.
 use mathlib.Core.Path.{_≡_, refl, _∙_, ap}
-use mathlib.Core.Bool.{true, false, cond, not}
+use mathlib.Core.Bool.{true, cond, not}
 use mathlib.Core.List.{List}
 use Prim.Native.Nat.{ℕ, _+_, _*_, _/_, _%_, _≤_, _<_}
 use native.Mathlib.Omega.{arith}
-use lib.Dec.{eqb, ltb, leb}
+use lib.Dec.{eqb, leb}
 use lib.ListN.{length, getD}
-use borrow.Author.Tests.{eqb-true, eqb-false, eq-eqb, ltb-true, leb-true, lt-ltb, le-leb}
+use borrow.Author.Tests.{eqb-true, eqb-false, eq-eqb, leb-true, lt-ltb, le-leb}
 use Rattle.lists.specs.Seq.{upFrom}
-use Rattle.lists.proofs.Logic.{cases, decided, and-left, and-right, and-join, test-passed}
+use Rattle.lists.proofs.Logic.{cases, decided, and-left, and-join, test-passed}
 use Rattle.lists.proofs.Members.{any-at, any-by, in-up, up-in}
 use Rattle.lists.proofs.Below.{below-at, below-by}
 use Rattle.lists.proofs.Table.{table-length, table-at}

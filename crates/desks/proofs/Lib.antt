@@ -2,3 +2,5 @@
 pub mod AlikeLaws
 pub mod RankLaws
 pub mod DeskLaws
+pub mod CallLaws
+pub mod Main
