@@ -1,1 +1,6 @@
--- Laws of desks.
+-- Laws that upper crates cite, and that the claims hold.
+pub mod AlikeLaws
+pub mod RankLaws
+pub mod DeskLaws
+pub mod CallLaws
+pub mod Main
