@@ -2,3 +2,5 @@
 pub mod SplitLaws
 pub mod MarkingLaws
 pub mod NumberLaws
+pub mod PrepareLaws
+pub mod CallLaws

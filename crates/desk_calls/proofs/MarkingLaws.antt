@@ -12,7 +12,7 @@ use lib.Dec.{eqb}
 use lib.ListN.{length, getD, set, replicate, length-set, length-replicate, getD-replicate}
 use lib.Seq.{getD-set-same, getD-set-other}
 use Rattle.lists.specs.Seq.{any, upFrom, table}
-use Rattle.lists.proofs.Logic.{cases, decided, either}
+use Rattle.lists.proofs.Logic.{cases, decided, either, clash}
 use Rattle.lists.proofs.Members.{any-append}
 use Rattle.lists.proofs.Table.{up-suc, table-by}
 use Rattle.desks.specs.Desk.{nodes, deskOf, DeskAccepted, used}
@@ -22,7 +22,7 @@ pub desk-low : (p : List ℕ) → DeskAccepted p → (v : ℕ) → v < nodes p �
 desk-low p ok v l = let h = ok .low v l in omega arith
 
 -- a node below v has desk d
-unfoldable usedBy : List ℕ → ℕ → ℕ → Bool
+unfoldable pub usedBy : List ℕ → ℕ → ℕ → Bool
 usedBy p v d = any (λ u. eqb (deskOf p u) d) (upFrom 0 v)
 
 used-turn : (p : List ℕ) (v d : ℕ) → usedBy p (v + 1) d ≡ (usedBy p v d || eqb (deskOf p v) d)
@@ -43,10 +43,10 @@ pub marking-none : (p row : List ℕ) → row ≡ replicate 160 255 → Marking 
 unfolding usedBy any upFrom
 marking-none p row e = record {
   within = omega arith;
-  long = ap length e ∙ length-replicate 160 255;
-  each = λ d l. ap (λ (r : List ℕ). getD r d 0) e ∙ getD-replicate 160 d 255 0 l;
+  long = ap length e ∙ length-replicate {A = ℕ} 160 255;
+  each = λ d l. ap (λ (r : List ℕ). getD r d 0) e ∙ getD-replicate {A = ℕ} 160 d 255 0 l;
   most = omega arith;
-  above = λ d h. absurd (h);
+  above = λ d h. clash false h refl;
 }
 
 module _ (p row : List ℕ) (top v : ℕ) (m : Marking p row top v) where
@@ -66,7 +66,7 @@ module _ (p row : List ℕ) (top v : ℕ) (m : Marking p row top v) where
         (λ u. let z : deskOf p v ≡ i = eqb-true (deskOf p v) i u in omega arith);
   }
     where
-      shown : (b : Bool) → 0 ≡ cond (b || true) 0 255
+      shown : (b : Bool) → _≡_ {A = ℕ} 0 (cond (b || true) 0 255)
       shown true = refl
       shown false = refl
 
