@@ -3,4 +3,6 @@ pub mod AlikeLaws
 pub mod RankLaws
 pub mod DeskLaws
 pub mod CallLaws
+pub mod OwnLaws
+pub mod PlainLaws
 pub mod Main
