@@ -5,4 +5,5 @@ pub mod DeskLaws
 pub mod CallLaws
 pub mod OwnLaws
 pub mod PlainLaws
+pub mod OneLaws
 pub mod Main
