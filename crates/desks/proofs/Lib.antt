@@ -7,3 +7,4 @@ pub mod OwnLaws
 pub mod PlainLaws
 pub mod OneLaws
 pub mod Main
+pub mod Cases
