@@ -21,6 +21,7 @@ use Rattle.event.proofs.ValidLaws.{faultless, valid}
 use Rattle.event.proofs.HostLaws.{host-in}
 use Rattle.site.specs.Verdict.{verdictNumber}
 use Rattle.job.specs.Simulation.{stepBy, stateFits, happen, tell, simulate, markAt, endMarks}
+use Rattle.simulation.specs.Run.{recordNumber, recordByNumber, recordByOn}
 use Rattle.journal.specs.declared.Entry.{Entry}
 use Rattle.journal.specs.Journal.{noEntry, target, isSet, entryOf, stepOn, keepFits, keptIf, keepOf, sited, entryFault, undoFits, undoNumber, takenBack, undoOf}
 use Rattle.journal.proofs.UndoLaws.{step-ok}
@@ -136,3 +137,8 @@ module _ (p : List ℕ) (lay : Layout) (row : ℕ → ℕ) (lay′ : Layout) (ro
   pub marks-alike : (st : List ℕ) → endMarks p lay st ≡ endMarks p lay′ st
   unfolding endMarks markAt
   marks-alike st = table-by _ (size p) _ (table-length _ (size p)) (λ v l. table-at _ (size p) v l ∙ rw (a .homes v l))
+
+  -- THE RECORD
+  pub record-alike : (tab st m c : List ℕ) → recordByOn p lay tab st m c ≡ recordByOn p lay′ tab st m c
+  unfolding recordByOn recordByNumber recordNumber
+  record-alike tab st m c = rw (← fits-alike st, ← marks-alike st)

@@ -101,7 +101,7 @@ module _ (p : List ℕ) (ok : DeskAccepted p) where
   step-row code node row = rw (desk-step code node row) (ap (λ (s : Stepped). s .row) (sym (at-step (plain p) _ (ownDesk p code node) code node row)))
 
   -- N4: the event's site is its desk's row
-  own-site : (code node : ℕ) → siteOf (plain p) (deskLayout p) (eventOf code node) ≡ deskRow p (ownDesk p code node)
+  pub own-site : (code node : ℕ) → siteOf (plain p) (deskLayout p) (eventOf code node) ≡ deskRow p (ownDesk p code node)
   unfolding siteOf deskLayout ownDesk
   own-site code node = refl
 

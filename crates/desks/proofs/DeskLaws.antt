@@ -46,7 +46,7 @@ whole-threes : (p : List ℕ) → threes p ≡ true → length p ≡ 3 * nodes p
 unfolding threes nodes
 whole-threes p h = let e = eqb-true (length p % 3) 0 (and-left _ _ (and-left _ _ h)) in omega arith
 
-threes-whole : (p : List ℕ) → length p ≡ 3 * nodes p → 0 < nodes p → nodes p ≤ 160 → threes p ≡ true
+pub threes-whole : (p : List ℕ) → length p ≡ 3 * nodes p → 0 < nodes p → nodes p ≤ 160 → threes p ≡ true
 unfolding threes
 threes-whole p e l m =
     let r : length p % 3 ≡ 0 = omega arith in
@@ -77,11 +77,11 @@ accepted-checks p ok =
     rw (t, c, d)
 
 -- THE ROWS
-nodes-use : (p : List ℕ) (v : ℕ) → v < nodes p → used p (deskOf p v) ≡ true
+pub nodes-use : (p : List ℕ) (v : ℕ) → v < nodes p → used p (deskOf p v) ≡ true
 unfolding used
 nodes-use p v l = any-by (λ u. eqb (deskOf p u) (deskOf p v)) (in-up 0 (nodes p) v (omega arith) (omega arith)) (eq-eqb (deskOf p v) (deskOf p v) refl)
 
-used-by : (p : List ℕ) (d : ℕ) → used p d ≡ true → (v : ℕ) × (v < nodes p) × (deskOf p v ≡ d)
+pub used-by : (p : List ℕ) (d : ℕ) → used p d ≡ true → (v : ℕ) × (v < nodes p) × (deskOf p v ≡ d)
 unfolding used
 used-by p d h =
     let r = any-at (λ v. eqb (deskOf p v) d) (upFrom 0 (nodes p)) h in

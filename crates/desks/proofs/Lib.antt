@@ -3,4 +3,8 @@ pub mod AlikeLaws
 pub mod RankLaws
 pub mod DeskLaws
 pub mod CallLaws
+pub mod OwnLaws
+pub mod PlainLaws
+pub mod OneLaws
 pub mod Main
+pub mod Cases

@@ -4,9 +4,11 @@ use Rattle.hosts.proofs.Main.{hosts-covered}
 use Rattle.journal.proofs.Main.{journaled}
 use Rattle.rewind.proofs.Main.{returning}
 use Rattle.desks.specs.Desk.{plain, DeskCheckExact, deskRow, deskLayout}
-use Rattle.desks.specs.Claim.{Desked}
+use Rattle.desks.specs.Claim.{Desked, OwnDesks, OneDesk}
 use Rattle.desks.proofs.DeskLaws.{same-nodes, check-accepts, accepted-checks, desk-rows, housed, named}
 use Rattle.desks.proofs.CallLaws.{at-once, call-number, call-state, step-number, step-row, event-at, message-own}
+use Rattle.desks.proofs.PlainLaws.{same-as-plain}
+use Rattle.desks.proofs.OneLaws.{one-follows}
 
 pub desk-check-exact : DeskCheckExact
 desk-check-exact p = (check-accepts p, accepted-checks p)
@@ -30,3 +32,9 @@ desked p ok = record {
   journal = journaled (plain p) (ok .accepted) (deskLayout p) (housed p ok) (deskRow p) (named p ok);
   returning = returning (plain p) (ok .accepted) (deskLayout p) (housed p ok) (deskRow p);
 }
+
+pub own-desks : OwnDesks
+own-desks = same-as-plain
+
+pub one-desk : OneDesk
+one-desk = one-follows

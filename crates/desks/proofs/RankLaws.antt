@@ -46,6 +46,18 @@ module _ (f : ℕ → Bool) where
       let e : (m - suc d) + suc d ≡ m = omega arith in
       omega (arith, rw e at b)
 
+  -- where all pass, each is its own rank; and what does not pass adds none
+  pub rank-all : (n : ℕ) → ((d : ℕ) → d < n → f d ≡ true) → rank n ≡ n
+  unfolding keep upFrom
+  rank-all zero h = refl
+  rank-all (suc n) h = rank-end n ∙ rw (h n (omega arith)) (let r = rank-all n (λ d l. h d (omega arith)) in omega arith)
+
+  pub rank-none : (n k : ℕ) → ((d : ℕ) → n ≤ d → f d ≡ false) → rank (k + n) ≡ rank n
+  rank-none n zero h = let e : 0 + n ≡ n = omega arith in rw e
+  rank-none n (suc k) h =
+      let e : suc k + n ≡ suc (k + n) = omega arith in
+      rw e (rank-end (k + n) ∙ rw (h (k + n) (omega arith)) (let r = rank-none n k h in omega arith))
+
   pub record Ranked (n q : ℕ) : Type 0 where
     pub passes : f (ofRank n q) ≡ true
     pub within : ofRank n q < n
