@@ -7,7 +7,7 @@ use borrow.Author.Tests.{not-true, not-false}
 use lib.ListN.{getD}
 use Rattle.lists.proofs.Logic.{clash}
 use Rattle.plan.specs.Plan.{size}
-use Rattle.event.specs.Event.{known}
+use Rattle.event.specs.Event.{eventOf, known}
 use Rattle.event.specs.Site.{hostOf}
 use Rattle.event.proofs.ValidLaws.{Known, known-told}
 use Rattle.desks.specs.Desk.{deskOf}
@@ -52,7 +52,7 @@ byte-at-requires c κs = search needs
 
 returns-2 : tie.Need-returns-2
 unfolding ownDesk deskOf
-returns-2 c = λ k. c .byte-at .ensures ∙ ap (λ (i : ℕ). getD (c .before .before .before .before .before .before .before .args .plan .now) (3 * i + 2) 0) (c .before .wide .ensures ∙ c .before .before .host .ensures ∙ ap (λ (q : List ℕ). hostOf q _) (c .before .before .before .before .before .before .before .pre .1))
+returns-2 c = λ k. c .byte-at .ensures ∙ ap (λ (i : ℕ). getD (c .before .before .before .before .before .before .before .args .plan .now) (3 * i + 2) 0) (c .before .wide .ensures ∙ c .before .before .host .ensures ∙ ap (λ (q : List ℕ). hostOf q (eventOf (c .before .before .before .before .before .before .before .args .code) (c .before .before .before .before .before .before .before .args .node))) (c .before .before .before .before .before .before .before .pre .1))
 
 pub own-desk-spec : {M : Type 1} → statement M
 own-desk-spec =
