@@ -26,7 +26,7 @@ module _ (f : ℕ → Bool) where
   unfolding keep
   keep-end n = let e : 0 + n ≡ n = omega arith in ap (keep f) (up-suc 0 n) ∙ keep-append f (upFrom 0 n) ((0 + n) ∷ []) ∙ rw e
 
-  rank-end : (n : ℕ) → rank (suc n) ≡ rank n + cond (f n) 1 0
+  pub rank-end : (n : ℕ) → rank (suc n) ≡ rank n + cond (f n) 1 0
   rank-end n = ap length (keep-end n) ∙ length-append (keep f (upFrom 0 n)) (cond (f n) (n ∷ []) []) ∙ go (f n)
     where
       go : (b : Bool) → rank n + length (cond b (n ∷ []) []) ≡ rank n + cond b 1 0
