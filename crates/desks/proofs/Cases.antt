@@ -3,14 +3,14 @@ use mathlib.Core.Path.{_≡_, refl}
 use mathlib.Core.List.{List, [], _∷_, _++_}
 use Prim.Native.Nat.{ℕ, zero, suc}
 use lib.ListN.{replicate}
-use Rattle.lists.specs.Seq.{all, any, keep as keepThose, upFrom, allBelow, table, headOr, lastOr}
+use Rattle.lists.specs.Seq.{all, any, keep as keepThose, upFrom, allBelow, table, headOr}
 use Rattle.plan.specs.Plan.{kindNumber, isKind, kindOf, size, kindByte, kind, parent, aboveByte, childrenBelow, children, childCount, above, inXor, depthWithin, depth}
 use Rattle.plan.specs.Check.{lengthOk, kindOk, parentOk, underBlock, fits, countOk, depthOk, atAll, checkNumber, fitNumber}
 use Rattle.event.specs.Event.{codeNumber, codeOf, isCode, appliesBy, applies, known}
 use Rattle.event.specs.Site.{hostBy, hostOf, siteOf}
 use Rattle.event.specs.Bit.{weight, hasBit, withBit, withoutBit}
 use Rattle.event.specs.Valid.{eventFault, invalid}
-use Rattle.guard.specs.Guard.{beforeIn, isFirst, startBy, finishBy, abortBy, finishing, aborting, guardBy, guard, holds, barsBy, bars, barred}
+use Rattle.guard.specs.Guard.{beforeIn, isFirst, startBy, guardBy, guard, holds, barsBy, bars, barred}
 use Rattle.guard.specs.Rule.{ruleKind, isPicked, ruleByte}
 use Rattle.central.specs.Mark.{markNumber}
 use Rattle.retention.specs.Record.{commonTable, frameOk, tableOk, tableNumber, classOf, aboveWithin, nodesAbove, fell, countsAbove, countsAs, class, recordOf, recorded}
@@ -223,7 +223,7 @@ Records =
     × (deskRecordByInto four (0 ∷ 0 ∷ 1 ∷ 1 ∷ 2 ∷ 2 ∷ 3 ∷ 3 ∷ 4 ∷ 3 ∷ 5 ∷ 3 ∷ []) heardAll idle idle ≡ recorded 0 (row 1 3 1 0) (row 0 2 1 0))
 
 pub all-right : Checks × Rows × Simulations × Steps × Keeps × Undos × Returns × Records
-unfolding links deskCheck threes desksLow nodes deskOf plain plainByte used usedBelow deskRow deskLayout ownDesk atDesk deskStepOf deskSimulateOf deskKeepOf deskUndoOf deskPointUndoOf deskPointBackOf deskRecordByInto pointUndoOf pointUndoFits returnedBy backOf backFits pointBackOf pointsFit nonePast namedOnce slotOf firstSlot sameName dropped keepOf keptIf keepFits stepOn entryOf isSet target sited entryFault undoFits undoNumber takenBack undoOf recordByOn recordByNumber recordNumber tableNumber tableOk frameOk recordOf class classOf countsAs countsAbove nodesAbove aboveWithin fell commonTable siteOf hostOf hostBy stepBy simulate happen tell stateFits rowOf withRow markBy markAt endMarks markNumber eventFault invalid known applies appliesBy isCode codeOf codeNumber stepAt stepInvalid decide reportOf ruleByte isPicked ruleKind heard heardIn hear unhear hasBit withBit withoutBit weight fitNumber checkNumber lengthOk kindOk parentOk underBlock fits countOk depthOk atAll size kindByte kind kindOf kindNumber isKind parent aboveByte childrenBelow children childCount depth depthWithin above inXor guard guardBy startBy finishBy abortBy finishing aborting isFirst headOr beforeIn holds barred bars barsBy all any keepThose upFrom allBelow table lastOr
+unfolding links deskCheck threes desksLow nodes deskOf plain plainByte used usedBelow deskRow deskLayout ownDesk atDesk deskStepOf deskSimulateOf deskKeepOf deskUndoOf deskPointUndoOf deskPointBackOf deskRecordByInto pointUndoOf pointUndoFits returnedBy backOf backFits pointBackOf pointsFit nonePast namedOnce slotOf firstSlot sameName dropped keepOf keptIf keepFits stepOn entryOf isSet target sited entryFault undoFits undoNumber takenBack undoOf recordByOn recordByNumber recordNumber tableNumber tableOk frameOk recordOf class classOf countsAs countsAbove nodesAbove aboveWithin fell commonTable siteOf hostOf hostBy stepBy simulate happen tell stateFits rowOf withRow markBy markAt endMarks markNumber eventFault invalid known applies appliesBy isCode codeOf codeNumber stepAt stepInvalid decide reportOf ruleByte isPicked ruleKind heard heardIn hear unhear hasBit withBit withoutBit weight fitNumber checkNumber lengthOk kindOk parentOk underBlock fits countOk depthOk atAll size kindByte kind kindOf kindNumber isKind parent aboveByte childrenBelow children childCount depth depthWithin above inXor guard guardBy startBy isFirst headOr beforeIn holds barred bars barsBy all any keepThose upFrom allBelow table
 all-right = (
   (refl, refl, refl, refl, refl, refl, refl, refl, refl, refl, refl, refl, refl, refl),
   (refl, refl, refl, refl, refl, refl, refl, refl, refl, refl),
