@@ -45,6 +45,7 @@ pub record DeskRows (p : List ℕ) : Type 0 where
   pub every : (q : ℕ) → q < deskRows p → (d : ℕ) × (used p d ≡ true) × (deskRow p d ≡ q)
   pub unused : (d : ℕ) → used p d ≡ false → deskRows p ≤ deskRow p d
 
+-- N1, N3 to N8: what holds of a plan with desks
 pub record DeskClaim (p : List ℕ) : Type 0 where
   -- N1: the plain plan has the nodes, their kinds and their parents, and is accepted
   pub same-nodes : size (plain p) ≡ nodes p
