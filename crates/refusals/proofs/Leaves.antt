@@ -9,7 +9,7 @@ use lib.ListN.{length, drop}
 use Rattle.lists.specs.Seq.{table}
 use Rattle.plan.specs.Plan.{size, depth}
 use Rattle.event.specs.Event.{eventOf}
-use Rattle.event.specs.Site.{own}
+use Rattle.event.specs.Site.{Layout, own}
 use Rattle.event.specs.Valid.{invalid}
 use Rattle.checker.specs.Depths.{Checked, checked, depthsNumber, depthsOf}
 use Rattle.rewrite.specs.Rewrite.{rewritten, Rewrote, rewrote, rewriteNumber, rewriteOf}
@@ -21,33 +21,32 @@ use Rattle.writer.specs.declared.Written.the-variants.{Done, Refused}
 use Rattle.site.specs.Verdict.{reportOf, verdictNumber}
 use Rattle.site.specs.declared.Refusal.the-variants.{Invalid}
 use Rattle.site.specs.declared.Verdict.the-variants as verdict
-use Rattle.site.specs.Step.{Stepped, stepped, stepInvalid, siteAt, stepOf, hearOf}
+use Rattle.site.specs.Step.{Stepped, stepped, stepInvalid, stepAt, hearOf}
 use Rattle.site.proofs.StepLaws.{step-leaves}
 use Rattle.row.specs.Row.{hear}
 use Rattle.central.specs.Central.{allowed}
 use Rattle.central.specs.Rule.{Ruled, ruled, rulingNumber, stateOf, ruleInvalid, marksAfter, notesAfter, ruleOn, ruleOf}
 use Rattle.central.specs.declared.Ruling.the-variants as ruling
 use Rattle.pass.specs.Pass.{PassResult, passResult, pass, passNumber, passInto}
-use Rattle.retention.specs.Record.{commonTable, recordOf, Recorded, recorded, recordedAs}
+use Rattle.retention.specs.Record.{recordOf, Recorded, recorded, recordedAs}
 use Rattle.pass_record.specs.PassRecord.{passRecordNumber, passRecordInto}
 use Rattle.job.specs.Simulation.{stepFrom, replayFrom, numbersFrom, endMarks}
 use Rattle.job.proofs.StepLaws.{refused-leaves}
-use Rattle.simulation.specs.Run.{simulateOf, recordByNumber, recordByOn, recordByInto, stepsOf, Ran, ran, runNumber, runOf}
+use Rattle.simulation.specs.Run.{simulateOf, recordByNumber, recordByOn, stepsOf, Ran, ran, runNumber, runOf}
 use Rattle.journal.specs.declared.Entry.{Entry}
+use Rattle.journal.specs.Journal.{Kept, keepOf, Undone, undoOf}
 use Rattle.journal.specs.Session.{Lent}
 use Rattle.journal.proofs.UndoLaws.{keep-refused, undo-refused}
-use Rattle.keeping.specs.Keeping.{keepOwn, undoOwn}
 use Rattle.script.specs.Script.{rehearseInto, textNumber, textLines, TextRun, textRun, refused, textDone, linesInto, runTextInto}
-use Rattle.refusals.specs.Claim.{RefusalsLeave, guardNumber, eventNumber, messageNumber, simulateNumber, keepNumber, ruleNumber}
-use Rattle.refusals.proofs.ChoiceLaws.{choice, refusal, tested}
-use Rattle.refusals.proofs.Points.{name-leaves, undo-leaves, back-leaves}
+use Rattle.refusals.specs.Claim.{guardNumber, messageNumber, simulateNumber, ruleNumber}
+use Rattle.refusals.proofs.ChoiceLaws.{choice, Leaving, refusal, tested}
 
-rewrite-leaves : (p b : List ℕ) → (rewriteOf p b .number ≡ 0 → ⊥) → rewriteOf p b .out ≡ b
+pub rewrite-leaves : (p b : List ℕ) → (rewriteOf p b .number ≡ 0 → ⊥) → rewriteOf p b .out ≡ b
 unfolding rewriteOf
 rewrite-leaves p b =
     tested (λ (r : Rewrote). r .number) (λ r. r .out ≡ b) (rewriteNumber p b) (rewrote (rewriteNumber p b) b) (rewrote 0 (rewritten p)) refl (λ e. refl)
 
-depths-leave : (p d : List ℕ) → (depthsOf p d .number ≡ 0 → ⊥) → depthsOf p d .depths ≡ d
+pub depths-leave : (p d : List ℕ) → (depthsOf p d .number ≡ 0 → ⊥) → depthsOf p d .depths ≡ d
 unfolding depthsOf
 depths-leave p d =
     tested (λ (r : Checked). r .number) (λ r. r .depths ≡ d) (depthsNumber p d) (checked d (depthsNumber p d)) (checked (table (depth p) (size p)) 0) refl (λ e. refl)
@@ -66,7 +65,7 @@ module _ (b : List ℕ) where
       choice (λ s. (answered s ≡ 0 → ⊥) → kept s) (not (leb (length x) (length b))) (filled b (Refused 7)) (filled (x ++ drop (length x) b) (Done (written (length x) rule)))
       (λ e n. refl) (λ e n. absurd (n refl))
 
-  guard-leaves : (p : List ℕ) (code node : ℕ) → (guardNumber p code node b ≡ 0 → ⊥) → writeOf p code node b .buffer ≡ b
+  pub guard-leaves : (p : List ℕ) (code node : ℕ) → (guardNumber p code node b ≡ 0 → ⊥) → writeOf p code node b .buffer ≡ b
   unfolding writeOf
   guard-leaves p code node =
       let n = invalid p true true code node in
@@ -74,16 +73,16 @@ module _ (b : List ℕ) where
       (λ e. fitted-leaves (encode (guard p (eventOf code node))) (ruleByte p (eventOf code node)))
 
 -- a step, a message and a step of a simulation
-step-left : (p : List ℕ) (code node : ℕ) (row : List ℕ) → (eventNumber p code node row ≡ 0 → ⊥) → stepOf p code node row .row ≡ row
-step-left p code node row h = step-leaves p (siteAt p code node) code node row ∙ rw (ne-eqb (eventNumber p code node row) 0 h)
+pub step-left : (p : List ℕ) (q code node : ℕ) (row : List ℕ) → Leaving (λ (s : Stepped). verdictNumber (s .verdict)) (λ s. s .row ≡ row) (stepAt p q code node row)
+step-left p q code node row h = step-leaves p q code node row ∙ rw (ne-eqb (verdictNumber (stepAt p q code node row .verdict)) 0 h)
 
-hear-leaves : (p : List ℕ) (code node : ℕ) (row : List ℕ) → (messageNumber p code node row ≡ 0 → ⊥) → hearOf p code node row .row ≡ row
+pub hear-leaves : (p : List ℕ) (code node : ℕ) (row : List ℕ) → (messageNumber p code node row ≡ 0 → ⊥) → hearOf p code node row .row ≡ row
 unfolding hearOf reportOf
 hear-leaves p code node row =
     let n = stepInvalid p code node row in
     tested (λ (s : Stepped). verdictNumber (s .verdict)) (λ s. s .row ≡ row) n (stepped row (verdict.Refused (Invalid n))) (stepped (hear row code node) verdict.Heard) refl (λ e. refl)
 
-simulate-leaves : (p : List ℕ) (code node q : ℕ) (st : List ℕ) → (simulateNumber p code node q st ≡ 0 → ⊥) → simulateOf p code node q st .state ≡ st
+pub simulate-leaves : (p : List ℕ) (code node q : ℕ) (st : List ℕ) → (simulateNumber p code node q st ≡ 0 → ⊥) → simulateOf p code node q st .state ≡ st
 unfolding simulateOf
 simulate-leaves p code node q st = refused-leaves p (own p) st (stepFrom code node q)
 
@@ -95,7 +94,7 @@ module _ (m k : List ℕ) where
   abbrev both : Ruled → Type 0
   both s = (s .marks ≡ m) × (s .notes ≡ k)
 
-  central-leaves : (p : List ℕ) (code node : ℕ) → (ruleNumber p code node m k ≡ 0 → ⊥) → (ruleOf p code node m k .marks ≡ m) × (ruleOf p code node m k .notes ≡ k)
+  pub central-leaves : (p : List ℕ) (code node : ℕ) → (ruleNumber p code node m k ≡ 0 → ⊥) → (ruleOf p code node m k .marks ≡ m) × (ruleOf p code node m k .notes ≡ k)
   unfolding ruleOf ruleOn rulingNumber
   central-leaves p code node =
       let n = ruleInvalid p code node m k in
@@ -105,7 +104,7 @@ module _ (m k : List ℕ) where
       (λ h. refl) (λ h. refl))
 
 -- the pass: 1 to 7, then its own fault
-pass-leaves : (p a m : List ℕ) → (passInto p a m .number ≡ 0 → ⊥) → passInto p a m .marks ≡ m
+pub pass-leaves : (p a m : List ℕ) → (passInto p a m .number ≡ 0 → ⊥) → passInto p a m .marks ≡ m
 unfolding passInto
 pass-leaves p a m =
     let x = passResult (passNumber p a m) m in
@@ -115,23 +114,23 @@ pass-leaves p a m =
 
 -- a record, and a list of steps
 module _ (m c : List ℕ) where
-  abbrev buffers : Recorded → Type 0
+  abbrev pub buffers : Recorded → Type 0
   buffers r = (r .marks ≡ m) × (r .classes ≡ c)
 
-  pass-record-leaves : (p tab a : List ℕ) → (passRecordInto p tab a m c .number ≡ 0 → ⊥) →
+  pub pass-record-leaves : (p tab a : List ℕ) → (passRecordInto p tab a m c .number ≡ 0 → ⊥) →
       (passRecordInto p tab a m c .marks ≡ m) × (passRecordInto p tab a m c .classes ≡ c)
   unfolding passRecordInto
   pass-record-leaves p tab a =
       let n = passRecordNumber p tab a m c in
       tested (λ (r : Recorded). r .number) buffers n (recorded n m c) (recordedAs (recordOf p tab (pass p a .marks))) (refl, refl) (λ e. refl)
 
-  record-leaves : (p tab st : List ℕ) → (recordByInto p tab st m c .number ≡ 0 → ⊥) → (recordByInto p tab st m c .marks ≡ m) × (recordByInto p tab st m c .classes ≡ c)
+  pub record-leaves : (p : List ℕ) (lay : Layout) (tab st : List ℕ) → Leaving (λ (r : Recorded). r .number) buffers (recordByOn p lay tab st m c)
   unfolding recordByOn
-  record-leaves p tab st =
-      let n = recordByNumber p (own p) tab st m c in
-      tested (λ (r : Recorded). r .number) buffers n (recorded n m c) (recordedAs (recordOf p tab (endMarks p (own p) st))) (refl, refl) (λ e. refl)
+  record-leaves p lay tab st =
+      let n = recordByNumber p lay tab st m c in
+      tested (λ (r : Recorded). r .number) buffers n (recorded n m c) (recordedAs (recordOf p tab (endMarks p lay st))) (refl, refl) (λ e. refl)
 
-run-leaves : (p bs st ns : List ℕ) → (runOf p bs st ns .number ≡ 0 → ⊥) → (runOf p bs st ns .state ≡ st) × (runOf p bs st ns .numbers ≡ ns)
+pub run-leaves : (p bs st ns : List ℕ) → (runOf p bs st ns .number ≡ 0 → ⊥) → (runOf p bs st ns .state ≡ st) × (runOf p bs st ns .numbers ≡ ns)
 unfolding runOf
 run-leaves p bs st ns =
     let n = runNumber p bs st ns in
@@ -139,7 +138,7 @@ run-leaves p bs st ns =
     (ran 0 (replayFrom p (own p) st (stepsOf bs)) (numbersFrom p (own p) st (stepsOf bs))) (refl, refl) (λ e. refl)
 
 -- a text: its number, then its room
-text-leaves : (t b : List ℕ) → (runTextInto t b .result .number ≡ 0 → ⊥) → runTextInto t b .out ≡ b
+pub text-leaves : (t b : List ℕ) → (runTextInto t b .result .number ≡ 0 → ⊥) → runTextInto t b .out ≡ b
 unfolding runTextInto linesInto
 text-leaves t b =
     let n = textNumber t in
@@ -151,39 +150,16 @@ text-leaves t b =
     refusal answer kept n (textRun (refused n) b) (cond (ltb (length b) 16384) short long) refl
     (λ e. choice (λ r. (answer r ≡ 0 → ⊥) → kept r) (ltb (length b) 16384) short long (λ e n. refl) (λ e n. absurd (n refl)))
 
-printing-leaves : (t b : List ℕ) → length b < 16384 → (rehearseInto t b .place ≡ 0) × (rehearseInto t b .buffer ≡ b)
+pub printing-leaves : (t b : List ℕ) → length b < 16384 → (rehearseInto t b .place ≡ 0) × (rehearseInto t b .buffer ≡ b)
 unfolding rehearseInto
 printing-leaves t b l = rw (lt-ltb (length b) 16384 l) (refl, refl)
 
--- a kept step and a take-back
-keep-left : (p st : List ℕ) (es : List Entry) (k code node q : ℕ) → (keepNumber p st es k code node q ≡ 0 → ⊥) →
-    (keepOwn p st es k code node q .step .state ≡ st) × (keepOwn p st es k code node q .entries ≡ es) × (keepOwn p st es k code node q .count ≡ k)
-keep-left p st es k code node q h =
-    let e = keep-refused p (own p) (λ r. r) st es k code node q h in
-    (ap (λ (l : Lent). l .state) e, ap (λ (l : Lent). l .entries) e, ap (λ (l : Lent). l .count) e)
+-- a kept step and a take-back, for any layout of rows
+module _ (p : List ℕ) (lay : Layout) (row : ℕ → ℕ) (st : List ℕ) (es : List Entry) (k : ℕ) where
+  pub keep-left : (code node site : ℕ) → Leaving (λ (a : Kept). verdictNumber (a .step .verdict)) (λ a. (a .step .state ≡ st) × (a .entries ≡ es) × (a .count ≡ k)) (keepOf p lay row st es k code node site)
+  keep-left code node site h =
+      let e = keep-refused p lay row st es k code node site h in
+      (ap (λ (l : Lent). l .state) e, ap (λ (l : Lent). l .entries) e, ap (λ (l : Lent). l .count) e)
 
-undo-left : (p st : List ℕ) (es : List Entry) (k : ℕ) → (undoOwn p st es k .number ≡ 0 → ⊥) → (undoOwn p st es k .state ≡ st) × (undoOwn p st es k .count ≡ k)
-undo-left p st es k h = let e = undo-refused p (own p) (λ q. q) st es k h in (ap (λ (l : Lent). l .state) e, ap (λ (l : Lent). l .count) e)
-
-pub refusals-leave : RefusalsLeave
-refusals-leave = record {
-  rewrite = rewrite-leaves;
-  check-depths = depths-leave;
-  guarded = λ p code node b. guard-leaves b p code node;
-  step = step-left;
-  hear = hear-leaves;
-  simulate = simulate-leaves;
-  keep = keep-left;
-  undo = undo-left;
-  point-name = name-leaves;
-  point-undo = λ p st es k ns ps. undo-leaves st k ns ps p es;
-  point-back = λ p name st es k ns ps. back-leaves st k ns ps p name es;
-  central = λ p code node m k. central-leaves m k p code node;
-  pass = pass-leaves;
-  pass-record = λ p tab a m c. pass-record-leaves m c p tab a;
-  end-record = λ p st m c. record-leaves m c p commonTable st;
-  end-record-by = λ p tab st m c. record-leaves m c p tab st;
-  run = run-leaves;
-  text = text-leaves;
-  printing = printing-leaves;
-}
+  pub undo-left : Leaving (λ (u : Undone). u .number) (λ u. (u .state ≡ st) × (u .count ≡ k)) (undoOf p lay row st es k)
+  undo-left h = let e = undo-refused p lay row st es k h in (ap (λ (l : Lent). l .state) e, ap (λ (l : Lent). l .count) e)

@@ -6,4 +6,5 @@ pub mod Passes
 pub mod Simulated
 pub mod Journal
 pub mod Points
+pub mod Desks
 pub mod Main

@@ -1,27 +1,34 @@
 -- The pass's own numbers are 0, 13 and 14: a fault is a node's own, before or after its children, or one of theirs. Assumes nothing.
-use mathlib.Core.Bool.{Bool, true, false, cond}
+use mathlib.Core.Path.{_≡_, refl}
+use mathlib.Core.Bool.{Bool, true, false, cond, _&&_}
 use mathlib.Core.List.{List, [], _∷_}
 use Prim.Native.Nat.{ℕ, zero, suc}
 use native.Mathlib.Omega.{arith}
-use lib.Dec.{eqb}
+use borrow.Author.Tests.{ltb-true}
+use lib.Dec.{eqb, ltb}
 use lib.ListN.{getD}
+use Rattle.lists.proofs.Logic.{and-left, and-right}
 use Rattle.plan.specs.Plan.{Kind, task, serial, and, or, xor, contingency, conditional, waiting, kind, children}
 use Rattle.pass.specs.Pass.{Outcome, works, breaks, fault, Tally, oneOrTwo, badAnswer, badPick, closes, goes, skip, note, ending, endOf, Settled, Walked, nothing, unwalked, childSettled, meetBy, meet, walk, close, settleIf, settleBy, settle, numberOf, passOf, pass}
 use Rattle.refusals.specs.Claim.{Later}
 use Rattle.refusals.proofs.ChoiceLaws.{choice}
 
 pub none-later : Later 0
-none-later l = omega arith
+none-later l = absurd (omega arith)
+
+-- 8 to 21
+pub later : (n : ℕ) → (ltb 7 n && ltb n 22) ≡ true → Later n
+later n h l = let b = ltb-true n 22 (and-right (ltb 7 n) _ h) in (ltb-true 7 n (and-left _ _ h), λ e. absurd (omega arith))
 
 answer-later : (k : Kind) (a : ℕ) → Later (badAnswer k a)
 unfolding badAnswer
-answer-later task a = choice Later (oneOrTwo a) 0 13 (λ e. none-later) (λ e l. omega arith)
+answer-later task a = choice Later (oneOrTwo a) 0 13 (λ e. none-later) (λ e. later 13 refl)
 answer-later serial a = none-later
 answer-later and a = none-later
 answer-later or a = none-later
 answer-later xor a = none-later
 answer-later contingency a = none-later
-answer-later conditional a = choice Later (oneOrTwo a) 0 13 (λ e. none-later) (λ e l. omega arith)
+answer-later conditional a = choice Later (oneOrTwo a) 0 13 (λ e. none-later) (λ e. later 13 refl)
 answer-later waiting a = none-later
 
 pick-later : (k : Kind) (a : ℕ) (t : Tally) → Later (badPick k a t)
@@ -30,7 +37,7 @@ pick-later task a t = none-later
 pick-later serial a t = none-later
 pick-later and a t = none-later
 pick-later or a t = none-later
-pick-later xor a t = choice Later (cond (t .worked) (t .chosen) (eqb a 0)) 0 14 (λ e. none-later) (λ e l. omega arith)
+pick-later xor a t = choice Later (cond (t .worked) (t .chosen) (eqb a 0)) 0 14 (λ e. none-later) (λ e. later 14 refl)
 pick-later contingency a t = none-later
 pick-later conditional a t = none-later
 pick-later waiting a t = none-later

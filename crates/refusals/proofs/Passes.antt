@@ -1,19 +1,18 @@
 -- An accepted plan with right lengths passes the tests 1 to 7. Assumes nothing.
-use mathlib.Core.Path.{_≡_, refl}
+use mathlib.Core.Path.{_≡_, refl, sym}
 use mathlib.Core.Bool.{Bool, true, cond, not, _&&_}
 use mathlib.Core.List.{List}
 use Prim.Native.Nat.{ℕ, _*_, _/_, _%_, _≤_}
-use native.Mathlib.Omega.{arith}
-use borrow.Author.Tests.{eq-eqb, le-leb}
+use borrow.Author.Tests.{eq-eqb, eqb-true, le-leb}
 use lib.Dec.{eqb}
 use lib.ListN.{length}
 use Rattle.lists.specs.Seq.{allBelow}
-use Rattle.lists.proofs.Logic.{and-join}
+use Rattle.lists.proofs.Logic.{cases, decided, and-join}
 use Rattle.plan.specs.Plan.{size}
 use Rattle.plan.specs.Check.{Accepted, fitNumber}
 use Rattle.plan.proofs.Main.{fit-exact}
 use Rattle.event.specs.Event.{eventOf, known, applies}
-use Rattle.event.specs.Site.{own}
+use Rattle.event.specs.Site.{Layout, own}
 use Rattle.event.specs.Valid.{eventFault, invalid}
 use Rattle.checker.specs.Depths.{depthsNumber, depthsOf}
 use Rattle.rewrite.specs.Rewrite.{rewriteNumber, rewriteOf}
@@ -23,7 +22,7 @@ use Rattle.guard.specs.Bytes.{encode}
 use Rattle.writer.specs.Written.{Filled, filled, writtenNumber, fitted, writeOf}
 use Rattle.writer.specs.declared.Written.the-variants.{Refused}
 use Rattle.site.specs.Verdict.{reportOf, verdictNumber}
-use Rattle.site.specs.Step.{Stepped, stepped, stepInvalid, siteAt, decide, stepAt, hearOf}
+use Rattle.site.specs.Step.{Stepped, stepped, stepInvalid, decide, stepAt, hearOf}
 use Rattle.site.specs.declared.Refusal.the-variants.{Invalid}
 use Rattle.site.specs.declared.Verdict.the-variants as verdict
 use Rattle.site.proofs.StepLaws.{decision-10, decision-11, decision-0}
@@ -34,25 +33,25 @@ use Rattle.central.specs.declared.Ruling.the-variants as ruling
 use Rattle.pass.specs.Pass.{PassResult, passResult, pass, passNumber, passInto}
 use Rattle.retention.specs.Record.{commonTable, frameOk, tableOk, tableNumber, Record, recordOf, Recorded, recorded, recordedAs}
 use Rattle.pass_record.specs.PassRecord.{lentNumber, passRecordNumber, passRecordInto}
-use Rattle.job.specs.Simulation.{stateFits, endMarks}
-use Rattle.simulation.specs.Run.{recordNumber, recordByNumber, recordByOn, recordInto, recordByInto, runNumber, runOf}
-use Rattle.refusals.specs.Claim.{Later, eventNumber, messageNumber, guardNumber, ruleNumber}
+use Rattle.job.specs.Simulation.{stateFits}
+use Rattle.simulation.specs.Run.{recordNumber, recordByNumber, recordByOn, runNumber, runOf}
+use Rattle.refusals.specs.Claim.{Later, messageNumber, guardNumber, ruleNumber}
 use Rattle.refusals.proofs.ChoiceLaws.{choice}
-use Rattle.refusals.proofs.PassNumbers.{none-later, pass-later}
+use Rattle.refusals.proofs.PassNumbers.{none-later, later, pass-later}
 
 table-later : (tab : List ℕ) → Later (tableNumber tab)
 unfolding tableNumber
-table-later tab = choice Later (tableOk tab) 0 21 (λ e. none-later) (λ e l. omega arith)
+table-later tab = choice Later (tableOk tab) 0 21 (λ e. none-later) (λ e. later 21 refl)
 
-common-right : tableNumber commonTable ≡ 0
+pub common-right : tableNumber commonTable ≡ 0
 unfolding tableNumber tableOk frameOk commonTable allBelow
 common-right = refl
 
 pub fault-later : (p : List ℕ) (sited : Bool) (code node : ℕ) → Later (eventFault p sited code node)
 unfolding eventFault
 fault-later p sited code node =
-    choice Later (not (known p code node && sited)) 8 (cond (not (applies p (eventOf code node))) 9 0) (λ e l. omega arith)
-    (λ e. choice Later (not (applies p (eventOf code node))) 9 0 (λ e l. omega arith) (λ e. none-later))
+    choice Later (not (known p code node && sited)) 8 (cond (not (applies p (eventOf code node))) 9 0) (λ e. later 8 refl)
+    (λ e. choice Later (not (applies p (eventOf code node))) 9 0 (λ e. later 9 refl) (λ e. none-later))
 
 module _ (p : List ℕ) (ok : Accepted p) where
   fit : (right : Bool) → right ≡ true → fitNumber p right ≡ 0
@@ -87,15 +86,17 @@ module _ (p : List ℕ) (ok : Accepted p) where
     unfolding stepInvalid
     test-later = invalid-later (eqb (length row) (size p)) true code node (one row long)
 
-    pub step-later : Later (eventNumber p code node row)
+    -- of site q
+    pub step-later : (q : ℕ) → Later (verdictNumber (stepAt p q code node row .verdict))
     unfolding stepAt decide reportOf
-    step-later =
+    step-later q =
         let n = stepInvalid p code node row in
         let P : Stepped → Type 0 = λ s. Later (verdictNumber (s .verdict)) in
-        choice P (not (eqb n 0)) (stepped row (verdict.Refused (Invalid n))) (decide p (siteAt p code node) code node row) (λ e. test-later)
-        (λ e. choice P (barred p (heard row) (eventOf code node)) (decision-10 p (siteAt p code node) code node row)
-        (cond (not (holds (heard row) (guard p (eventOf code node)))) (decision-11 p (siteAt p code node) code node row) (decision-0 p (siteAt p code node) code node row)) (λ e l. omega arith)
-        (λ e. choice P (not (holds (heard row) (guard p (eventOf code node)))) (decision-11 p (siteAt p code node) code node row) (decision-0 p (siteAt p code node) code node row) (λ e l. omega arith) (λ e. none-later)))
+        let unmet = not (holds (heard row) (guard p (eventOf code node))) in
+        choice P (not (eqb n 0)) (stepped row (verdict.Refused (Invalid n))) (decide p q code node row) (λ e. test-later)
+        (λ e. choice P (barred p (heard row) (eventOf code node)) (decision-10 p q code node row)
+        (cond unmet (decision-11 p q code node row) (decision-0 p q code node row)) (λ e. later 10 refl)
+        (λ e. choice P unmet (decision-11 p q code node row) (decision-0 p q code node row) (λ e. later 11 refl) (λ e. none-later)))
 
     pub hear-later : Later (messageNumber p code node row)
     unfolding hearOf reportOf
@@ -134,19 +135,12 @@ module _ (p : List ℕ) (ok : Accepted p) where
       recorded-later (passRecordNumber p tab a m c) m c (recordOf p tab (pass p a .marks))
       (behind-table tab _ (rw (fit (eqb (length a) (size p) && eqb (length m) (size p) && eqb (length c) (size p)) (and-join _ _ (and-join _ _ (one a la) (one m lm)) (one c lc))) (pass-later p a)))
 
-  -- a state of nodes times nodes
-  square : (st m c : List ℕ) → length st ≡ size p * size p → length m ≡ size p → length c ≡ size p → recordNumber p (own p) st m c ≡ 0
-  unfolding recordNumber stateFits own
-  square st m c ls lm lc = fit _ (and-join _ _ (and-join _ _ (eq-eqb (length st) (size p * size p) ls) (one m lm)) (one c lc))
-
-  pub record-passes : (st m c : List ℕ) → length st ≡ size p * size p → length m ≡ size p → length c ≡ size p → recordInto p st m c .number ≡ 0
-  unfolding recordByOn recordByNumber
-  record-passes st m c ls lm lc = rw (common-right, square st m c ls lm lc)
-
-  pub record-by-passes : (tab st m c : List ℕ) → length st ≡ size p * size p → length m ≡ size p → length c ≡ size p → Later (recordByInto p tab st m c .number)
-  unfolding recordByOn recordByNumber
-  record-by-passes tab st m c ls lm lc =
-      recorded-later (recordByNumber p (own p) tab st m c) m c (recordOf p tab (endMarks p (own p) st)) (behind-table tab (recordNumber p (own p) st m c) (rw (square st m c ls lm lc) none-later))
+  -- a record of any layout has its table's number
+  pub record-passes : (lay : Layout) (tab st m c : List ℕ) → length st ≡ lay .rows * size p → length m ≡ size p → length c ≡ size p → recordByOn p lay tab st m c .number ≡ tableNumber tab
+  unfolding recordByOn recordByNumber recordNumber stateFits
+  record-passes lay tab st m c ls lm lc =
+      let f = fit (eqb (length st) (lay .rows * size p) && eqb (length m) (size p) && eqb (length c) (size p)) (and-join _ _ (and-join _ _ (eq-eqb (length st) (lay .rows * size p) ls) (one m lm)) (one c lc)) in
+      cases (decided (eqb (tableNumber tab) 0)) (λ t. rw (t, f) (sym (eqb-true (tableNumber tab) 0 t))) (λ t. rw (t, t))
 
   pub run-passes : (bs st ns : List ℕ) → length st ≡ size p * size p → length bs % 3 ≡ 0 → length ns ≡ length bs / 3 → runOf p bs st ns .number ≡ 0
   unfolding runOf runNumber stateFits own

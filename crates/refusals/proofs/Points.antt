@@ -1,4 +1,4 @@
--- The calls with points: refused they leave all, and with right lengths and points they get none of 1 to 7. Assumes nothing.
+-- The calls with points, for any layout of rows: refused they leave all, and with right lengths and points they get none of 1 to 7. Assumes nothing.
 use mathlib.Core.Path.{_≡_, refl}
 use mathlib.Core.Bool.{true, cond, not}
 use mathlib.Core.List.{List}
@@ -9,24 +9,22 @@ use lib.Dec.{eqb, ltb}
 use lib.ListN.{length, set}
 use lib.Seq.{sets}
 use Rattle.lists.proofs.Logic.{clash, and-join}
-use Rattle.plan.specs.Plan.{size}
-use Rattle.plan.specs.Check.{Accepted}
 use Rattle.plan.proofs.Main.{fit-exact}
-use Rattle.event.specs.Site.{own}
-use Rattle.job.specs.Simulation.{stateFits}
-use Rattle.simulation.proofs.OwnLaws.{own-laid}
+use Rattle.event.specs.Site.{Layout}
+use Rattle.layout.specs.Layout.{Laid}
 use Rattle.journal.specs.declared.Entry.{Entry}
 use Rattle.journal.specs.Journal.{sited, entryFault, Undone, undoOf}
-use Rattle.points.specs.Points.{points, placeAt, slotOf, freeSlot, nameFits, Naming, naming, nameOf, dropped}
+use Rattle.points.specs.Points.{points, placeAt, slotOf, freeSlot, pointsFit, nameFits, Naming, naming, nameOf, dropped}
 use Rattle.points.specs.Claim.{PointsRight}
 use Rattle.points.proofs.Main.{points-claim}
-use Rattle.rewind.specs.Return.{Returned, returned, returnedBy, pointUndoFits, pointUndoOf, pointUndoOwn, backOf, backFits, pointBackOf, pointBackOwn}
+use Rattle.rewind.specs.Return.{Returned, returned, returnedBy, pointUndoFits, pointUndoOf, backOf, backFits, pointBackOf}
 use Rattle.rewind.specs.Rewound.{lastOf, firstFault}
 use Rattle.rewind.proofs.BackLaws.{back-dry}
 use Rattle.refusals.specs.Claim.{Later}
 use Rattle.refusals.proofs.ChoiceLaws.{choice, Leaving, refusal}
-use Rattle.refusals.proofs.PassNumbers.{none-later}
+use Rattle.refusals.proofs.PassNumbers.{none-later, later}
 use Rattle.refusals.proofs.Passes.{fault-later}
+use Rattle.refusals.proofs.Simulated.{laid-fits}
 use Rattle.refusals.proofs.Journal.{undo-later}
 
 -- A NAMING is a choice of four
@@ -46,11 +44,11 @@ module _ (name : List ℕ) (k : ℕ) (ns ps : List ℕ) where
   unfolding nameFits
   name-later long l right = naming-choice (λ r. Later (r .number))
       (λ e. clash _ (and-join _ _ (and-join _ _ (eq-eqb (length name) 8 long) (lt-ltb k 18446744073709551615 l)) (points-claim .exact ns ps k .1 right)) (not-true _ e))
-      (λ z. omega arith) (λ names places. none-later)
+      (later 20 refl) (λ names places. none-later)
 
 -- A TAKE-BACK AND A GOING BACK
 module _ (st : List ℕ) (k : ℕ) (ns ps : List ℕ) where
-  abbrev left : Returned → Type 0
+  abbrev pub left : Returned → Type 0
   left r = (r .state ≡ st) × (r .count ≡ k) × (r .left ≡ points ns ps)
 
   abbrev numberOf : Returned → ℕ
@@ -66,45 +64,50 @@ module _ (st : List ℕ) (k : ℕ) (ns ps : List ℕ) where
   by-later u l = choice (λ (r : Returned). Later (r .number)) (eqb (u .number) 0) (returned 0 (u .state) (u .count) (dropped (u .count) ns ps)) (returned (u .number) st k (points ns ps))
       (λ e. none-later) (λ e. l)
 
-  pub undo-leaves : (p : List ℕ) (es : List Entry) → Leaving numberOf left (pointUndoOwn p st es k ns ps)
-  unfolding pointUndoOf
-  undo-leaves p es =
-      let n = pointUndoFits p (own p) (λ q. q) st es k ns ps in
-      let u = undoOf p (own p) (λ q. q) st es k in
-      refusal numberOf left n (returned n st k (points ns ps)) (returnedBy u st k ns ps) (refl, refl, refl) (λ e. by-leaves u)
+  module _ (p : List ℕ) (lay : Layout) (row : ℕ → ℕ) where
+    pub undo-leaves : (es : List Entry) → Leaving numberOf left (pointUndoOf p lay row st es k ns ps)
+    unfolding pointUndoOf
+    undo-leaves es =
+        let n = pointUndoFits p lay row st es k ns ps in
+        let u = undoOf p lay row st es k in
+        refusal numberOf left n (returned n st k (points ns ps)) (returnedBy u st k ns ps) (refl, refl, refl) (λ e. by-leaves u)
 
-  pub back-leaves : (p name : List ℕ) (es : List Entry) → Leaving numberOf left (pointBackOwn p name st es k ns ps)
-  unfolding pointBackOf
-  back-leaves p name es =
-      let n = backFits p (own p) (λ q. q) name st es k ns ps in
-      let u = backOf p (own p) (λ q. q) (k - placeAt ps (slotOf ns ps name)) st es k in
-      refusal numberOf left n (returned n st k (points ns ps)) (cond (not (ltb (slotOf ns ps name) 16)) (returned 19 st k (points ns ps)) (returnedBy u st k ns ps)) (refl, refl, refl)
-      (λ e. choice (Leaving numberOf left) (not (ltb (slotOf ns ps name) 16)) (returned 19 st k (points ns ps)) (returnedBy u st k ns ps) (λ f z. (refl, refl, refl)) (λ f. by-leaves u))
+    pub back-leaves : (name : List ℕ) (es : List Entry) → Leaving numberOf left (pointBackOf p lay row name st es k ns ps)
+    unfolding pointBackOf
+    back-leaves name es =
+        let n = backFits p lay row name st es k ns ps in
+        let u = backOf p lay row (k - placeAt ps (slotOf ns ps name)) st es k in
+        refusal numberOf left n (returned n st k (points ns ps)) (cond (not (ltb (slotOf ns ps name) 16)) (returned 19 st k (points ns ps)) (returnedBy u st k ns ps)) (refl, refl, refl)
+        (λ e. choice (Leaving numberOf left) (not (ltb (slotOf ns ps name) 16)) (returned 19 st k (points ns ps)) (returnedBy u st k ns ps) (λ f z. (refl, refl, refl)) (λ f. by-leaves u))
 
-module _ (p : List ℕ) (ok : Accepted p) (st : List ℕ) (long : length st ≡ size p * size p) (es : List Entry) (k : ℕ) (within : k ≤ length es) (ns ps : List ℕ) (right : PointsRight ns ps k) where
-  pub point-undo-later : Later (pointUndoOwn p st es k ns ps .number)
-  unfolding pointUndoOf pointUndoFits stateFits own
+module _ (p : List ℕ) (lay : Layout) (row : ℕ → ℕ) (st : List ℕ) (laid : Laid p lay st) (es : List Entry) (k : ℕ) (within : k ≤ length es) (ns ps : List ℕ) (right : PointsRight ns ps k) where
+  points-right : pointsFit ns ps k ≡ true
+  points-right = points-claim .exact ns ps k .1 right
+
+  pub point-undo-later : Later (pointUndoOf p lay row st es k ns ps .number)
+  unfolding pointUndoOf pointUndoFits
   point-undo-later =
-      let fits = and-join _ _ (and-join _ _ (eq-eqb (length st) (size p * size p) long) (le-leb k (length es) within)) (points-claim .exact ns ps k .1 right) in
-      rw (fit-exact p _ .none .1 (ok, fits)) (by-later st k ns ps (undoOf p (own p) (λ q. q) st es k) (undo-later p ok st long es k within))
+      let fits = and-join _ _ (and-join _ _ (laid-fits p lay st laid) (le-leb k (length es) within)) points-right in
+      rw (fit-exact p _ .none .1 (laid .plan, fits)) (by-later st k ns ps (undoOf p lay row st es k) (undo-later p lay row st laid es k within))
 
   -- the first number met is one of an entry
-  first-later : (n m : ℕ) → Later (firstFault p (own p) (λ q. q) es n m)
+  first-later : (n m : ℕ) → Later (firstFault p lay row es n m)
   unfolding firstFault entryFault
   first-later zero m = none-later
   first-later (suc n) m =
       let e : Entry = lastOf es m in
-      choice Later (eqb (entryFault p (own p) (λ q. q) e) 0) (firstFault p (own p) (λ q. q) es n (m - 1)) (entryFault p (own p) (λ q. q) e)
-      (λ z. first-later n (m - 1)) (λ z. fault-later p (sited p (own p) (λ q. q) (e .site)) (e .code) (e .node))
+      choice Later (eqb (entryFault p lay row e) 0) (firstFault p lay row es n (m - 1)) (entryFault p lay row e)
+      (λ z. first-later n (m - 1)) (λ z. fault-later p (sited p lay row (e .site)) (e .code) (e .node))
 
-  back-later : (n : ℕ) → n ≤ k → Later (backOf p (own p) (λ q. q) n st es k .number)
-  back-later n l = rw (back-dry p (own p) (λ q. q) n st es k (own-laid p st ok long) l within .0) (first-later n k)
+  back-later : (n : ℕ) → n ≤ k → Later (backOf p lay row n st es k .number)
+  back-later n l = rw (back-dry p lay row n st es k laid l within .0) (first-later n k)
 
-  pub point-back-later : (name : List ℕ) → length name ≡ 8 → Later (pointBackOwn p name st es k ns ps .number)
-  unfolding pointBackOf backFits stateFits own
+  pub point-back-later : (name : List ℕ) → length name ≡ 8 → Later (pointBackOf p lay row name st es k ns ps .number)
+  unfolding pointBackOf backFits
   point-back-later name eight =
-      let fits = and-join _ _ (and-join _ _ (and-join _ _ (eq-eqb (length name) 8 eight) (eq-eqb (length st) (size p * size p) long)) (le-leb k (length es) within)) (points-claim .exact ns ps k .1 right) in
+      let fits = and-join _ _ (and-join _ _ (and-join _ _ (eq-eqb (length name) 8 eight) (laid-fits p lay st laid)) (le-leb k (length es) within)) points-right in
       let n : ℕ = k - placeAt ps (slotOf ns ps name) in
-      let u : Undone = backOf p (own p) (λ q. q) n st es k in
-      rw (fit-exact p _ .none .1 (ok, fits)) (choice (λ (r : Returned). Later (r .number)) (not (ltb (slotOf ns ps name) 16)) (returned 19 st k (points ns ps)) (returnedBy u st k ns ps)
-      (λ f l. omega arith) (λ f. by-later st k ns ps u (back-later n (omega arith))))
+      let u : Undone = backOf p lay row n st es k in
+      rw (fit-exact p _ .none .1 (laid .plan, fits))
+      (choice (λ (r : Returned). Later (r .number)) (not (ltb (slotOf ns ps name) 16)) (returned 19 st k (points ns ps)) (returnedBy u st k ns ps)
+      (λ f. later 19 refl) (λ f. by-later st k ns ps u (back-later n (omega arith))))

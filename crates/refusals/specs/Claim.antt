@@ -1,5 +1,6 @@
--- THE CLAIM OF DEMAND 1 (rules A and H): which plans are accepted, that an accepted plan with right lengths is not refused with 1 to 7, and that a
--- refused call leaves every lent byte. It is about the definitions that the contracts of the C functions cite. Definitions only.
+-- THE CLAIM OF DEMAND 1 (rules A, H and N2): which plans are accepted, with desks or without; that an accepted plan with right lengths is not refused
+-- with 1 to 7, nor with 22; and that a refused call leaves every lent byte. It is about the definitions that the contracts of the C functions cite.
+-- Definitions only.
 use mathlib.Core.Path.{_≡_}
 use mathlib.Core.List.{List}
 use Prim.Native.Nat.{ℕ, _*_, _/_, _%_, _≤_, _<_}
@@ -16,6 +17,7 @@ use Rattle.site.specs.Verdict.{verdictNumber}
 use Rattle.site.specs.Step.{stepOf, hearOf}
 use Rattle.central.specs.Rule.{rulingNumber, ruleOf}
 use Rattle.pass.specs.Pass.{passInto}
+use Rattle.retention.specs.Record.{tableNumber}
 use Rattle.pass_record.specs.PassRecord.{passRecordInto}
 use Rattle.simulation.specs.Run.{simulateOf, recordInto, recordByInto, runOf}
 use Rattle.journal.specs.declared.Entry.{Entry}
@@ -23,6 +25,8 @@ use Rattle.keeping.specs.Keeping.{keepOwn, undoOwn}
 use Rattle.points.specs.Points.{points, nameOf}
 use Rattle.points.specs.Claim.{PointsRight}
 use Rattle.rewind.specs.Return.{pointUndoOwn, pointBackOwn}
+use Rattle.desks.specs.Desk.{nodes, DeskAccepted, DeskCheckExact, deskRows}
+use Rattle.desks.specs.Calls.{deskStepOf, deskSimulateOf, deskKeepOf, deskUndoOf, deskPointUndoOf, deskPointBackOf, deskRecordByInto, deskRecordInto}
 use Rattle.script.specs.Script.{rehearseInto, runTextInto}
 
 -- H16, H17: the number of the answer to an event at a site, to a message, and to either in a simulation
@@ -38,6 +42,16 @@ simulateNumber p code node q st = verdictNumber (simulateOf p code node q st .ve
 -- L2: and to a kept step
 abbrev pub keepNumber : List ℕ → List ℕ → List Entry → ℕ → ℕ → ℕ → ℕ → ℕ
 keepNumber p st es k code node q = verdictNumber (keepOwn p st es k code node q .step .verdict)
+
+-- N6: and to a step on a plan with desks, of a desk, in a simulation, and kept
+abbrev pub deskEventNumber : List ℕ → ℕ → ℕ → List ℕ → ℕ
+deskEventNumber p code node row = verdictNumber (deskStepOf p code node row .verdict)
+
+abbrev pub deskSimulateNumber : List ℕ → ℕ → ℕ → ℕ → List ℕ → ℕ
+deskSimulateNumber p code node d st = verdictNumber (deskSimulateOf p code node d st .verdict)
+
+abbrev pub deskKeepNumber : List ℕ → List ℕ → List Entry → ℕ → ℕ → ℕ → ℕ → ℕ
+deskKeepNumber p st es k code node d = verdictNumber (deskKeepOf p st es k code node d .step .verdict)
 
 -- E10, H18: and of the guard writer and the central rule
 abbrev pub guardNumber : List ℕ → ℕ → ℕ → List ℕ → ℕ
@@ -85,6 +99,24 @@ pub record RefusalsLeave : Type 0 where
   -- vulcedar_record_by
   pub end-record-by : (p tab st m c : List ℕ) → (recordByInto p tab st m c .number ≡ 0 → ⊥) →
       (recordByInto p tab st m c .marks ≡ m) × (recordByInto p tab st m c .classes ≡ c)
+  -- N6: vulcedar_desk_step
+  pub desk-step : (p : List ℕ) (code node : ℕ) (row : List ℕ) → (deskEventNumber p code node row ≡ 0 → ⊥) → deskStepOf p code node row .row ≡ row
+  -- N6: vulcedar_desk_simulate
+  pub desk-simulate : (p : List ℕ) (code node d : ℕ) (st : List ℕ) → (deskSimulateNumber p code node d st ≡ 0 → ⊥) → deskSimulateOf p code node d st .state ≡ st
+  -- N6: vulcedar_desk_keep
+  pub desk-keep : (p st : List ℕ) (es : List Entry) (k code node d : ℕ) → (deskKeepNumber p st es k code node d ≡ 0 → ⊥) →
+      (deskKeepOf p st es k code node d .step .state ≡ st) × (deskKeepOf p st es k code node d .entries ≡ es) × (deskKeepOf p st es k code node d .count ≡ k)
+  -- N6: vulcedar_desk_undo, vulcedar_desk_point_undo and vulcedar_desk_point_back, which never write the entries
+  pub desk-undo : (p st : List ℕ) (es : List Entry) (k : ℕ) → (deskUndoOf p st es k .number ≡ 0 → ⊥) → (deskUndoOf p st es k .state ≡ st) × (deskUndoOf p st es k .count ≡ k)
+  pub desk-point-undo : (p st : List ℕ) (es : List Entry) (k : ℕ) (ns ps : List ℕ) → (deskPointUndoOf p st es k ns ps .number ≡ 0 → ⊥) →
+      (deskPointUndoOf p st es k ns ps .state ≡ st) × (deskPointUndoOf p st es k ns ps .count ≡ k) × (deskPointUndoOf p st es k ns ps .left ≡ points ns ps)
+  pub desk-point-back : (p name st : List ℕ) (es : List Entry) (k : ℕ) (ns ps : List ℕ) → (deskPointBackOf p name st es k ns ps .number ≡ 0 → ⊥) →
+      (deskPointBackOf p name st es k ns ps .state ≡ st) × (deskPointBackOf p name st es k ns ps .count ≡ k) × (deskPointBackOf p name st es k ns ps .left ≡ points ns ps)
+  -- N6: vulcedar_desk_record
+  pub desk-record : (p st m c : List ℕ) → (deskRecordInto p st m c .number ≡ 0 → ⊥) → (deskRecordInto p st m c .marks ≡ m) × (deskRecordInto p st m c .classes ≡ c)
+  -- N6: vulcedar_desk_record_by
+  pub desk-record-by : (p tab st m c : List ℕ) → (deskRecordByInto p tab st m c .number ≡ 0 → ⊥) →
+      (deskRecordByInto p tab st m c .marks ≡ m) × (deskRecordByInto p tab st m c .classes ≡ c)
   -- a list of steps in frames, which no C function has
   pub run : (p bs st ns : List ℕ) → (runOf p bs st ns .number ≡ 0 → ⊥) → (runOf p bs st ns .state ≡ st) × (runOf p bs st ns .numbers ≡ ns)
   -- vulcedar_rehearse
@@ -92,11 +124,11 @@ pub record RefusalsLeave : Type 0 where
   -- the text's function for the program, which prints a refusal's number too: a buffer that is too short
   pub printing : (t b : List ℕ) → length b < 16384 → (rehearseInto t b .place ≡ 0) × (rehearseInto t b .buffer ≡ b)
 
--- H0: 0, or a number behind 7
+-- H0: 0, or a number found behind 7; 22 is found before it
 abbrev pub Later : ℕ → Type 0
-Later n = 0 < n → 7 < n
+Later n = 0 < n → (7 < n) × (n ≡ 22 → ⊥)
 
--- H0 to H7: an accepted plan with right lengths gets none of 1 to 7
+-- H0 to H7: an accepted plan with right lengths gets none of 1 to 7, and not 22
 pub record AcceptedPass (p : List ℕ) : Type 0 where
   -- vulcedar_rewrite
   pub rewrite : (b : List ℕ) → length b ≡ length p → rewriteOf p b .number ≡ 0
@@ -128,12 +160,33 @@ pub record AcceptedPass (p : List ℕ) : Type 0 where
   pub pass-record : (tab a m c : List ℕ) → length a ≡ size p → length m ≡ size p → length c ≡ size p → Later (passRecordInto p tab a m c .number)
   -- vulcedar_record
   pub end-record : (st m c : List ℕ) → length st ≡ size p * size p → length m ≡ size p → length c ≡ size p → recordInto p st m c .number ≡ 0
-  -- vulcedar_record_by
-  pub end-record-by : (tab st m c : List ℕ) → length st ≡ size p * size p → length m ≡ size p → length c ≡ size p → Later (recordByInto p tab st m c .number)
+  -- vulcedar_record_by, which answers the table's number: 0 or 21
+  pub end-record-by : (tab st m c : List ℕ) → length st ≡ size p * size p → length m ≡ size p → length c ≡ size p → recordByInto p tab st m c .number ≡ tableNumber tab
   -- a list of steps in frames
   pub run : (bs st ns : List ℕ) → length st ≡ size p * size p → length bs % 3 ≡ 0 → length ns ≡ length bs / 3 → runOf p bs st ns .number ≡ 0
 
--- A1 to A6, H0 to H7: DEMAND 1
+-- H0 to H7, N2, N3, N6: an accepted plan with desks and right lengths gets none of 1 to 7, and not 22
+pub record DeskAcceptedPass (p : List ℕ) : Type 0 where
+  -- vulcedar_desk_step
+  pub step : (code node : ℕ) (row : List ℕ) → length row ≡ nodes p → Later (deskEventNumber p code node row)
+  -- vulcedar_desk_simulate
+  pub simulate : (code node d : ℕ) (st : List ℕ) → length st ≡ deskRows p * nodes p → Later (deskSimulateNumber p code node d st)
+  -- vulcedar_desk_keep
+  pub keep : (st : List ℕ) (es : List Entry) (k code node d : ℕ) → length st ≡ deskRows p * nodes p → k < length es → Later (deskKeepNumber p st es k code node d)
+  -- vulcedar_desk_undo
+  pub undo : (st : List ℕ) (es : List Entry) (k : ℕ) → length st ≡ deskRows p * nodes p → k ≤ length es → Later (deskUndoOf p st es k .number)
+  -- vulcedar_desk_point_undo
+  pub point-undo : (st : List ℕ) (es : List Entry) (k : ℕ) (ns ps : List ℕ) → length st ≡ deskRows p * nodes p → k ≤ length es → PointsRight ns ps k →
+      Later (deskPointUndoOf p st es k ns ps .number)
+  -- vulcedar_desk_point_back
+  pub point-back : (name st : List ℕ) (es : List Entry) (k : ℕ) (ns ps : List ℕ) → length name ≡ 8 → length st ≡ deskRows p * nodes p → k ≤ length es → PointsRight ns ps k →
+      Later (deskPointBackOf p name st es k ns ps .number)
+  -- vulcedar_desk_record
+  pub end-record : (st m c : List ℕ) → length st ≡ deskRows p * nodes p → length m ≡ nodes p → length c ≡ nodes p → deskRecordInto p st m c .number ≡ 0
+  -- vulcedar_desk_record_by, which answers the table's number: 0 or 21
+  pub end-record-by : (tab st m c : List ℕ) → length st ≡ deskRows p * nodes p → length m ≡ nodes p → length c ≡ nodes p → deskRecordByInto p tab st m c .number ≡ tableNumber tab
+
+-- A1 to A6, H0 to H7, N2, N6: DEMAND 1
 pub record Demand1 : Type 0 where
   -- A1 to A6: the check passes every plan within the limits, and no other
   pub exact : CheckExact
@@ -141,5 +194,9 @@ pub record Demand1 : Type 0 where
   pub accepted : (p : List ℕ) → Accepted p → AcceptedPass p
   -- M2, M3: vulcedar_point_name, which takes no plan, with right points
   pub point-name : (name : List ℕ) (k : ℕ) (ns ps : List ℕ) → length name ≡ 8 → k < 18446744073709551615 → PointsRight ns ps k → Later (nameOf name k ns ps .number)
+  -- N2: and with desks, every one within the limits, and no other
+  pub desk-exact : DeskCheckExact
+  -- N6: the calls on them
+  pub desk-accepted : (p : List ℕ) → DeskAccepted p → DeskAcceptedPass p
   -- H0
   pub refused : RefusalsLeave
