@@ -27,10 +27,10 @@ pub fn run<S: Implementation, R: Implementation>(trial: &mut Trial<S, R>) {
     points::run(trial);
 }
 
-/// Version 1.2.0.
+/// Version 1.3.0.
 fn version<S: Implementation, R: Implementation>(trial: &mut Trial<S, R>) {
     let version = trial.version();
-    trial.tally.compare(version == 0x01_0200, || format!("the version is {version:08x}"));
+    trial.tally.compare(version == 0x01_0300, || format!("the version is {version:08x}"));
 }
 
 /// A guard: the event, its rule, and what must be written.
