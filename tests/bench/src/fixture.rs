@@ -2,6 +2,7 @@
 
 use differential::codes::*;
 use differential::driver::{Driver, Step, Temper, Tree};
+use differential::form::Form;
 use differential::random::Random;
 use differential::{Implementation, Reference};
 
@@ -125,7 +126,7 @@ fn job(plan: &[u8], most: usize) -> Job {
     let nodes = plan.len() / 2;
     let mut steps = Vec::new();
     let mut random = Random::new(nodes as u64);
-    let mut driver = Driver::new(plan, Temper { failing: 10, noise: 0, late: 0, eager: 50 });
+    let mut driver = Driver::new(Form::Plain, plan, Temper { failing: 10, noise: 0, late: 0, eager: 50 });
     let mut state = vec![0; nodes * nodes];
     while driver.passed().len() < most
         && let Some(step) = driver.propose(&mut random)

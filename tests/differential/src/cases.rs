@@ -7,6 +7,7 @@ use crate::implementation::Implementation;
 use crate::tables::COMMON;
 use crate::trial::{Trial, hex};
 
+mod desks;
 mod points;
 
 /// Plan P of document 01.
@@ -25,6 +26,7 @@ pub fn run<S: Implementation, R: Implementation>(trial: &mut Trial<S, R>) {
     moves(trial);
     take_backs(trial);
     points::run(trial);
+    desks::run(trial);
 }
 
 /// Version 1.3.0.

@@ -716,7 +716,7 @@ impl Both {
         ]
     }
 
-    /// A step that is kept, and two ways to take one back.
+    /// A step that is kept, and a take-back.
     fn journals(&self, [code, node, site]: [u32; 3], journal: Journal) -> [u32; 2] {
         let Both { plan, desks } = self;
         [
