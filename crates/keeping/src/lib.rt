@@ -21,7 +21,7 @@ pub struct Kept {
 }
 
 // An entry of zeros.
-fn no_entry() -> Entry
+pub fn no_entry() -> Entry
     ensures { λ r. ⌜ r ≡ noEntry ⌝ }
 {
     Entry {

@@ -32,7 +32,7 @@ use Rattle.retention.specs.Record.{commonTable, recordOf, Recorded, recorded, r
 use Rattle.pass_record.specs.PassRecord.{passRecordNumber, passRecordInto}
 use Rattle.job.specs.Simulation.{stepFrom, replayFrom, numbersFrom, endMarks}
 use Rattle.job.proofs.StepLaws.{refused-leaves}
-use Rattle.simulation.specs.Run.{simulateOf, recordByNumber, recordByInto, stepsOf, Ran, ran, runNumber, runOf}
+use Rattle.simulation.specs.Run.{simulateOf, recordByNumber, recordByOn, recordByInto, stepsOf, Ran, ran, runNumber, runOf}
 use Rattle.journal.specs.declared.Entry.{Entry}
 use Rattle.journal.specs.Session.{Lent}
 use Rattle.journal.proofs.UndoLaws.{keep-refused, undo-refused}
@@ -126,9 +126,9 @@ module _ (m c : List ℕ) where
       tested (λ (r : Recorded). r .number) buffers n (recorded n m c) (recordedAs (recordOf p tab (pass p a .marks))) (refl, refl) (λ e. refl)
 
   record-leaves : (p tab st : List ℕ) → (recordByInto p tab st m c .number ≡ 0 → ⊥) → (recordByInto p tab st m c .marks ≡ m) × (recordByInto p tab st m c .classes ≡ c)
-  unfolding recordByInto
+  unfolding recordByOn
   record-leaves p tab st =
-      let n = recordByNumber p tab st m c in
+      let n = recordByNumber p (own p) tab st m c in
       tested (λ (r : Recorded). r .number) buffers n (recorded n m c) (recordedAs (recordOf p tab (endMarks p (own p) st))) (refl, refl) (λ e. refl)
 
 run-leaves : (p bs st ns : List ℕ) → (runOf p bs st ns .number ≡ 0 → ⊥) → (runOf p bs st ns .state ≡ st) × (runOf p bs st ns .numbers ≡ ns)

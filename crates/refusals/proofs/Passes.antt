@@ -35,7 +35,7 @@ use Rattle.pass.specs.Pass.{PassResult, passResult, pass, passNumber, passInto}
 use Rattle.retention.specs.Record.{commonTable, frameOk, tableOk, tableNumber, Record, recordOf, Recorded, recorded, recordedAs}
 use Rattle.pass_record.specs.PassRecord.{lentNumber, passRecordNumber, passRecordInto}
 use Rattle.job.specs.Simulation.{stateFits, endMarks}
-use Rattle.simulation.specs.Run.{recordNumber, recordByNumber, recordInto, recordByInto, runNumber, runOf}
+use Rattle.simulation.specs.Run.{recordNumber, recordByNumber, recordByOn, recordInto, recordByInto, runNumber, runOf}
 use Rattle.refusals.specs.Claim.{Later, eventNumber, messageNumber, guardNumber, ruleNumber}
 use Rattle.refusals.proofs.ChoiceLaws.{choice}
 use Rattle.refusals.proofs.PassNumbers.{none-later, pass-later}
@@ -135,18 +135,18 @@ module _ (p : List ℕ) (ok : Accepted p) where
       (behind-table tab _ (rw (fit (eqb (length a) (size p) && eqb (length m) (size p) && eqb (length c) (size p)) (and-join _ _ (and-join _ _ (one a la) (one m lm)) (one c lc))) (pass-later p a)))
 
   -- a state of nodes times nodes
-  square : (st m c : List ℕ) → length st ≡ size p * size p → length m ≡ size p → length c ≡ size p → recordNumber p st m c ≡ 0
+  square : (st m c : List ℕ) → length st ≡ size p * size p → length m ≡ size p → length c ≡ size p → recordNumber p (own p) st m c ≡ 0
   unfolding recordNumber stateFits own
   square st m c ls lm lc = fit _ (and-join _ _ (and-join _ _ (eq-eqb (length st) (size p * size p) ls) (one m lm)) (one c lc))
 
   pub record-passes : (st m c : List ℕ) → length st ≡ size p * size p → length m ≡ size p → length c ≡ size p → recordInto p st m c .number ≡ 0
-  unfolding recordByInto recordByNumber
+  unfolding recordByOn recordByNumber
   record-passes st m c ls lm lc = rw (common-right, square st m c ls lm lc)
 
   pub record-by-passes : (tab st m c : List ℕ) → length st ≡ size p * size p → length m ≡ size p → length c ≡ size p → Later (recordByInto p tab st m c .number)
-  unfolding recordByInto recordByNumber
+  unfolding recordByOn recordByNumber
   record-by-passes tab st m c ls lm lc =
-      recorded-later (recordByNumber p tab st m c) m c (recordOf p tab (endMarks p (own p) st)) (behind-table tab (recordNumber p st m c) (rw (square st m c ls lm lc) none-later))
+      recorded-later (recordByNumber p (own p) tab st m c) m c (recordOf p tab (endMarks p (own p) st)) (behind-table tab (recordNumber p (own p) st m c) (rw (square st m c ls lm lc) none-later))
 
   pub run-passes : (bs st ns : List ℕ) → length st ≡ size p * size p → length bs % 3 ≡ 0 → length ns ≡ length bs / 3 → runOf p bs st ns .number ≡ 0
   unfolding runOf runNumber stateFits own

@@ -20,7 +20,7 @@ use Rattle.retention.specs.Record.{tableNumber, recordOf, Recorded, recorded}
 use Rattle.job.specs.Simulation.{Step, simulate, stateFits, zeros, replay, numbersFrom, endMarks}
 use Rattle.script.specs.Script.{AllZero}
 use Rattle.lists.proofs.Parts.{part-length, Back}
-use Rattle.simulation.specs.Run.{recordNumber, recordByNumber, recordByInto, stepsOf, stepsFrom, Ran, ran, runNumber, runOf}
+use Rattle.simulation.specs.Run.{recordNumber, recordByNumber, recordByOn, recordByInto, stepsOf, stepsFrom, Ran, ran, runNumber, runOf}
 
 -- the record of an accepted plan, in the fronts of two buffers: n is the code's number of nodes
 pub plan-few : (p : List ℕ) → checkNumber p ≡ 0 → size p ≤ 160
@@ -39,12 +39,12 @@ module _ (p tab st : List ℕ) (right : tableNumber tab ≡ 0) (ok : checkNumber
   long : (x : List ℕ) → 160 ≡ length x → eqb (length (take n x)) (size p) ≡ true
   long x l = eq-eqb (length (take n x)) (size p) (sym (part-length x n (omega (arith, node-room))) ∙ count)
 
-  recordable : recordByNumber p tab st (take n y) (take n z) ≡ 0
+  recordable : recordByNumber p (own p) tab st (take n y) (take n z) ≡ 0
   unfolding recordByNumber recordNumber stateFits own
   recordable = rw (right, eq-eqb (length st) (size p * size p) fits, long y ly, long z lz) (fit-right p ∙ ok)
 
   pub record-told : (r : ℕ) (m′ c′ : List ℕ) → recordByInto p tab st (take n y) (take n z) ≡ recorded r m′ c′ → RecordTold p tab st n y z m′ c′
-  unfolding recordByInto recordOf endMarks
+  unfolding recordByOn recordOf endMarks
   record-told r m′ c′ h =
       let q = rw recordable at h in
       let a = sym (ap (λ (x : Recorded). x .marks) q) in

@@ -7,7 +7,7 @@ use lib.Dec.{eqb}
 use lib.ListN.{length, getD}
 use Rattle.plan.specs.Plan.{size}
 use Rattle.plan.specs.Check.{fitNumber}
-use Rattle.event.specs.Site.{own}
+use Rattle.event.specs.Site.{Layout, own}
 use Rattle.retention.specs.Record.{commonTable, tableNumber, recordOf, Recorded, recorded, recordedAs}
 use Rattle.job.specs.Simulation.{Step, stepFrom, Simulated, simulate, stateFits, replayFrom, numbersFrom, endMarks}
 
@@ -15,19 +15,23 @@ use Rattle.job.specs.Simulation.{Step, stepFrom, Simulated, simulate, stateFits
 unfoldable pub simulateOf : List ℕ → ℕ → ℕ → ℕ → List ℕ → Simulated
 simulateOf p code node site st = simulate p (own p) st (stepFrom code node site)
 
--- H7: the state is not nodes times nodes, or the marks or classes are not one byte a node
-unfoldable pub recordNumber : List ℕ → List ℕ → List ℕ → List ℕ → ℕ
-recordNumber p st m c = fitNumber p (stateFits p (own p) st && eqb (length m) (size p) && eqb (length c) (size p))
+-- H7: the state is not rows times nodes, or the marks or classes are not one byte a node
+unfoldable pub recordNumber : List ℕ → Layout → List ℕ → List ℕ → List ℕ → ℕ
+recordNumber p lay st m c = fitNumber p (stateFits p lay st && eqb (length m) (size p) && eqb (length c) (size p))
 
 -- H0, H21: the table's number comes before the plan's
-unfoldable pub recordByNumber : List ℕ → List ℕ → List ℕ → List ℕ → List ℕ → ℕ
-recordByNumber p tab st m c = cond (not (eqb (tableNumber tab) 0)) (tableNumber tab) (recordNumber p st m c)
+unfoldable pub recordByNumber : List ℕ → Layout → List ℕ → List ℕ → List ℕ → List ℕ → ℕ
+recordByNumber p lay tab st m c = cond (not (eqb (tableNumber tab) 0)) (tableNumber tab) (recordNumber p lay st m c)
 
--- G3, G4: the record by the house's own table
-unfoldable pub recordByInto : List ℕ → List ℕ → List ℕ → List ℕ → List ℕ → Recorded
-recordByInto p tab st m c =
-    cond (not (eqb (recordByNumber p tab st m c) 0)) (recorded (recordByNumber p tab st m c) m c)
-    (recordedAs (recordOf p tab (endMarks p (own p) st)))
+-- G3, G4: the record by the house's own table, for any layout of rows
+unfoldable pub recordByOn : List ℕ → Layout → List ℕ → List ℕ → List ℕ → List ℕ → Recorded
+recordByOn p lay tab st m c =
+    cond (not (eqb (recordByNumber p lay tab st m c) 0)) (recorded (recordByNumber p lay tab st m c) m c)
+    (recordedAs (recordOf p tab (endMarks p lay st)))
+
+-- B4: where every node has its own row
+abbrev pub recordByInto : List ℕ → List ℕ → List ℕ → List ℕ → List ℕ → Recorded
+recordByInto p tab st m c = recordByOn p (own p) tab st m c
 
 -- G1: without a table, by the common one
 abbrev pub recordInto : List ℕ → List ℕ → List ℕ → List ℕ → Recorded

@@ -1,0 +1,52 @@
+-- How the calls prepare a plan with desks: its plain plan and the two tables of its layout, in local arrays; and what a
+-- kept step and a take-back promise without seeing the entries. Contracts cite this; no rule is stated here. Definitions only.
+use mathlib.Core.Path.{_≡_}
+use mathlib.Core.Bool.{Bool, cond}
+use mathlib.Core.List.{List}
+use Prim.Native.Nat.{ℕ, _*_, _-_, _<_}
+use lib.Dec.{eqb, ltb}
+use lib.ListN.{length, getD, take, set}
+use Rattle.lists.specs.Seq.{keep, upFrom, table}
+use Rattle.site.specs.declared.Verdict.{Verdict}
+use Rattle.job.specs.Simulation.{simulated}
+use Rattle.journal.specs.declared.Entry.{Entry}
+use Rattle.journal.specs.Journal.{noEntry, kept, undone}
+use Rattle.desks.specs.Desk.{nodes, deskOf, plain, DeskAccepted, used, usedBelow, deskRows}
+use Rattle.desks.specs.Calls.{deskKeepOf, deskUndoOf}
+
+-- a desk in use is marked by 0
+unfoldable pub isMarked : List ℕ → ℕ → Bool
+isMarked fs d = eqb (getD fs d 0) 0
+
+-- how many desks below n are marked
+unfoldable pub markedBelow : List ℕ → ℕ → ℕ
+markedBelow fs n = length (keep (isMarked fs) (upFrom 0 n))
+
+-- the marks of desks below n made their rows; other bytes stay
+unfoldable pub numberedByte : List ℕ → ℕ → ℕ → ℕ
+numberedByte fs n d = cond (ltb d n) (cond (isMarked fs d) (markedBelow fs d) (getD fs d 0)) (getD fs d 0)
+
+-- desk d's mark, and its byte in the table of rows; 255 is no row
+unfoldable pub markOf : List ℕ → ℕ → ℕ
+markOf p d = cond (used p d) 0 255
+
+unfoldable pub rowByte : List ℕ → ℕ → ℕ
+rowByte p d = cond (used p d) (usedBelow p d) 255
+
+-- what is prepared
+pub record Prepared (p : List ℕ) (rows : ℕ) (two home row : List ℕ) : Type 0 where
+  pub accepted : DeskAccepted p
+  pub front : take (2 * nodes p) two ≡ plain p
+  pub count : rows ≡ deskRows p
+  pub homes : take (nodes p) home ≡ table (λ v. rowByte p (deskOf p v)) (nodes p)
+  pub named : row ≡ table (rowByte p) 160
+
+-- L2: a step whose entry e goes to place `at` of len entries, whatever these are; past their end nothing is stored
+abbrev pub DeskKeeps : List ℕ → List ℕ → ℕ → ℕ → ℕ → ℕ → ℕ → Verdict → ℕ → Entry → List ℕ → ℕ → Type 0
+DeskKeeps p st len k code node desk v at e st′ k′ =
+    (es : List Entry) → length es ≡ len → deskKeepOf p st es k code node desk ≡ kept (simulated st′ v) (set es at e) k′
+
+-- L3: a take-back, where the last of len entries is e, whatever the others are
+abbrev pub DeskUndoes : List ℕ → List ℕ → ℕ → ℕ → Entry → ℕ → List ℕ → ℕ → Type 0
+DeskUndoes p st len k e n st′ k′ =
+    (es : List Entry) → length es ≡ len → getD es (k - 1) noEntry ≡ e → deskUndoOf p st es k ≡ undone n st′ k′

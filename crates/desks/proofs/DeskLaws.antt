@@ -1,0 +1,120 @@
+-- A plan with desks as a plan of two bytes a node with a layout (rules N1 to N4): the plain plan, the check, and the rows. Assumes nothing.
+use mathlib.Core.Path.{_≡_, refl, _∙_, ap}
+use mathlib.Core.Bool.{true, cond, not}
+use mathlib.Core.List.{List}
+use Prim.Native.Nat.{ℕ, _+_, _*_, _/_, _%_, _≤_, _<_}
+use native.Mathlib.Omega.{arith}
+use lib.Dec.{eqb, leb}
+use lib.ListN.{length, getD}
+use borrow.Author.Tests.{eqb-true, eqb-false, eq-eqb, leb-true, lt-ltb, le-leb}
+use Rattle.lists.specs.Seq.{upFrom}
+use Rattle.lists.proofs.Logic.{cases, decided, and-left, and-join, test-passed}
+use Rattle.lists.proofs.Members.{any-at, any-by, in-up, up-in}
+use Rattle.lists.proofs.Below.{below-at, below-by}
+use Rattle.lists.proofs.Table.{table-length, table-at}
+use Rattle.plan.specs.Plan.{size, kindByte, parent}
+use Rattle.plan.specs.Check.{checkNumber}
+use Rattle.plan.proofs.Main.{check-exact}
+use Rattle.event.specs.Site.{Housed}
+use Rattle.journal.specs.Session.{Named}
+use Rattle.desks.specs.Desk.{nodes, deskOf, plainByte, plain, threes, desksLow, deskCheck, DeskAccepted, used, usedBelow, deskRows, deskRow, deskLayout}
+use Rattle.desks.specs.Claim.{DeskRows}
+use Rattle.desks.proofs.RankLaws.{ofRank, rank-below, ranked}
+
+-- THE PLAIN PLAN: the same nodes, kinds and parents
+pub same-nodes : (p : List ℕ) → size (plain p) ≡ nodes p
+unfolding size plain
+same-nodes p = ap (λ (n : ℕ). n / 2) (table-length (plainByte p) (2 * nodes p)) ∙ omega arith
+
+plain-at : (p : List ℕ) (v i : ℕ) → v < nodes p → i < 2 → getD (plain p) (2 * v + i) 0 ≡ getD p (3 * v + i) 0
+unfolding plain plainByte
+plain-at p v i l m =
+    let a : (2 * v + i) / 2 ≡ v = omega arith in
+    let b : (2 * v + i) % 2 ≡ i = omega arith in
+    table-at (plainByte p) (2 * nodes p) (2 * v + i) (omega arith) ∙ rw (a, b)
+
+pub plain-kind : (p : List ℕ) (v : ℕ) → v < nodes p → kindByte (plain p) v ≡ getD p (3 * v) 0
+unfolding kindByte
+plain-kind p v l = let a : 2 * v + 0 ≡ 2 * v = omega arith in let b : 3 * v + 0 ≡ 3 * v = omega arith in rw (a, b) at (plain-at p v 0 l (omega arith))
+
+pub plain-parent : (p : List ℕ) (v : ℕ) → v < nodes p → parent (plain p) v ≡ getD p (3 * v + 1) 0
+unfolding parent
+plain-parent p v l = plain-at p v 1 l (omega arith)
+
+-- THE CHECK
+whole-threes : (p : List ℕ) → threes p ≡ true → length p ≡ 3 * nodes p
+unfolding threes nodes
+whole-threes p h = let e = eqb-true (length p % 3) 0 (and-left _ _ (and-left _ _ h)) in omega arith
+
+pub threes-whole : (p : List ℕ) → length p ≡ 3 * nodes p → 0 < nodes p → nodes p ≤ 160 → threes p ≡ true
+unfolding threes
+threes-whole p e l m =
+    let r : length p % 3 ≡ 0 = omega arith in
+    and-join _ _ (and-join _ _ (eq-eqb (length p % 3) 0 r) (lt-ltb 0 (length p) (omega arith))) (le-leb (length p) 480 (omega arith))
+
+first : (n r : ℕ) → cond (not (eqb n 0)) n r ≡ 0 → (n ≡ 0) × (r ≡ 0)
+first n r h = cases (decided (eqb n 0)) (λ e. (eqb-true n 0 e, rw e at h)) (λ e. absurd (eqb-false n 0 e (rw e at h)))
+
+pub check-accepts : (p : List ℕ) → deskCheck p ≡ 0 → DeskAccepted p
+unfolding deskCheck desksLow
+check-accepts p h =
+    let a = test-passed (threes p) 0 _ h in
+    let b = first (checkNumber (plain p)) _ (a .1) in
+    let c = test-passed (desksLow p) 21 0 (b .1) in
+    record {
+      whole = whole-threes p (a .0);
+      accepted = check-exact (plain p) .0 (b .0);
+      low = λ v l. leb-true (deskOf p v) 159 (below-at (λ v. leb (deskOf p v) 159) (nodes p) v (c .0) l);
+    }
+
+pub accepted-checks : (p : List ℕ) → DeskAccepted p → deskCheck p ≡ 0
+unfolding deskCheck desksLow
+accepted-checks p ok =
+    let n = same-nodes p in
+    let t : threes p ≡ true = threes-whole p (ok .whole) (rw n at (ok .accepted .some)) (rw n at (ok .accepted .few)) in
+    let c : checkNumber (plain p) ≡ 0 = check-exact (plain p) .1 (ok .accepted) in
+    let d = below-by (λ v. leb (deskOf p v) 159) (nodes p) (λ v l. le-leb (deskOf p v) 159 (ok .low v l)) in
+    rw (t, c, d)
+
+-- THE ROWS
+pub nodes-use : (p : List ℕ) (v : ℕ) → v < nodes p → used p (deskOf p v) ≡ true
+unfolding used
+nodes-use p v l = any-by (λ u. eqb (deskOf p u) (deskOf p v)) (in-up 0 (nodes p) v (omega arith) (omega arith)) (eq-eqb (deskOf p v) (deskOf p v) refl)
+
+pub used-by : (p : List ℕ) (d : ℕ) → used p d ≡ true → (v : ℕ) × (v < nodes p) × (deskOf p v ≡ d)
+unfolding used
+used-by p d h =
+    let r = any-at (λ v. eqb (deskOf p v) d) (upFrom 0 (nodes p)) h in
+    let u = up-in 0 (nodes p) (r .1) in
+    (r .0, omega arith, eqb-true (deskOf p (r .0)) d (r .2))
+
+module _ (p : List ℕ) (ok : DeskAccepted p) where
+  used-low : (d : ℕ) → used p d ≡ true → d < 160
+  used-low d h = let r = used-by p d h in let l = ok .low (r .0) (r .1) in let e = r .2 in omega arith
+
+  used-within : (d : ℕ) → used p d ≡ true → deskRow p d < deskRows p
+  unfolding deskRow usedBelow
+  used-within d h = rw h (rank-below (used p) d 160 (used-low d h) h)
+
+  pub desk-rows : DeskRows p
+  unfolding deskRow usedBelow
+  desk-rows = record {
+    nodes-use = nodes-use p;
+    used-by = used-by p;
+    within = used-within;
+    rising = λ c d h k l. rw (h, k) (rank-below (used p) c d l h);
+    every = λ q l. let r = ranked (used p) 160 q l in (ofRank (used p) 160 q, r .passes, rw (r .passes) (r .is));
+    unused = λ d h. rw h (omega arith);
+  }
+
+  pub housed : Housed (plain p) (deskLayout p)
+  unfolding deskLayout
+  housed v l = let k : v < nodes p = rw (same-nodes p) at l in used-within (deskOf p v) (nodes-use p v k)
+
+  pub named : Named (deskLayout p) (deskRow p)
+  unfolding deskLayout deskRow usedBelow
+  named = record {
+    number = ofRank (used p) 160;
+    named = λ q l. let r = ranked (used p) 160 q l in rw (r .passes) (r .is);
+    no-event = λ q l e. let w = ranked (used p) 160 q l .within in omega arith;
+  }
