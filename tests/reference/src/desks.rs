@@ -3,52 +3,51 @@
 use crate::layout::Layout;
 use crate::plan::{MAX_NODES, Node, Plan};
 use crate::refusal::Refusal;
+use std::cell::OnceCell;
 
-/// The highest number that a desk can have.
-pub const HIGHEST: u8 = 0x9f;
+/// How many numbers there are for desks: 0 to 9f.
+pub const NUMBERS: usize = 0xa0;
 
 /// Takes a plan with desks apart and checks it, for a call that is lent one: 1
 /// to 6, then 22.
 pub fn open<T>(plan: &[u8], call: impl FnOnce(&Desks) -> T) -> Result<T, Refusal> {
-    let parts = Parts::of(plan)?;
-    let desks = parts.check()?;
+    let mut parts = Parts { nodes: [[0; 2]; MAX_NODES], desks: [0; MAX_NODES] };
+    let desks = parts.read(plan)?;
     Ok(call(&desks))
 }
 
-/// A plan with desks taken apart.
+/// Room for a plan with desks that is taken apart.
 struct Parts {
     /// The plain plan.
     nodes: [Node; MAX_NODES],
     /// Every node's desk.
     desks: [u8; MAX_NODES],
-    size: usize,
 }
 
 impl Parts {
     /// Three bytes a node: 1 unless that comes out even and within the limit.
-    fn of(plan: &[u8]) -> Result<Parts, Refusal> {
-        let (frames, []) = plan.as_chunks::<3>() else {
-            return Err(Refusal::PlanLength);
-        };
-        if !(1..=MAX_NODES).contains(&frames.len()) {
-            return Err(Refusal::PlanLength);
-        }
-        let mut parts = Parts { nodes: [[0; 2]; MAX_NODES], desks: [0; MAX_NODES], size: frames.len() };
-        for (node, &[kind, parent, desk]) in frames.iter().enumerate() {
-            parts.nodes[node] = [kind, parent];
-            parts.desks[node] = desk;
-        }
-        Ok(parts)
-    }
-
     /// The plain plan is checked first, then the desks: 2 to 6, 22.
-    fn check(&self) -> Result<Desks<'_>, Refusal> {
-        let plan = Plan::check(self.nodes[..self.size].as_flattened())?;
-        let of_nodes = &self.desks[..self.size];
-        if of_nodes.iter().fold(false, |above, &desk| above | (desk > HIGHEST)) {
+    fn read(&mut self, plan: &[u8]) -> Result<Desks<'_>, Refusal> {
+        let frames = split(plan).ok_or(Refusal::PlanLength)?;
+        let nodes = &mut self.nodes[..frames.len()];
+        let desks = &mut self.desks[..frames.len()];
+        for ((&[kind, parent, number], node), desk) in frames.iter().zip(&mut *nodes).zip(&mut *desks) {
+            *node = [kind, parent];
+            *desk = number;
+        }
+        let plan = Plan::check(nodes.as_flattened())?;
+        let is_above = |desk: u8| usize::from(desk) >= NUMBERS;
+        if desks.iter().fold(false, |found, &desk| found | is_above(desk)) {
             return Err(Refusal::Desk);
         }
-        Ok(Desks { plan, of_nodes, in_use: InUse::of(of_nodes) })
+        Ok(Desks { plan, of_nodes: desks, rows: OnceCell::new() })
+    }
+}
+
+fn split(plan: &[u8]) -> Option<&[[u8; 3]]> {
+    match plan.as_chunks() {
+        (frames, []) if (1..=MAX_NODES).contains(&frames.len()) => Some(frames),
+        _ => None,
     }
 }
 
@@ -56,26 +55,34 @@ impl Parts {
 pub struct Desks<'a> {
     plan: Plan<'a>,
     of_nodes: &'a [u8],
-    in_use: InUse,
+    /// Worked out where a state is lent.
+    rows: OnceCell<Rows>,
 }
 
-/// A row for each desk in use, in rising number.
+impl Desks<'_> {
+    fn map(&self) -> &Rows {
+        self.rows.get_or_init(|| Rows::of(self.of_nodes))
+    }
+}
+
+/// A row for each desk in use.
 impl Layout for Desks<'_> {
     fn plan(&self) -> &Plan<'_> {
         &self.plan
     }
 
     fn rows(&self) -> usize {
-        self.in_use.count()
+        self.map().count.into()
     }
 
     fn row(&self, node: usize) -> usize {
-        self.in_use.below(self.of_nodes[node])
+        self.map().of_desk[usize::from(self.of_nodes[node])].into()
     }
 
     fn hearer(&self, number: u32) -> Result<usize, Refusal> {
-        let desk = u8::try_from(number).ok().filter(|&desk| self.in_use.has(desk));
-        desk.map(|desk| self.in_use.below(desk)).ok_or(Refusal::Unknown)
+        let rows = self.map();
+        let desk = usize::try_from(number).ok().filter(|&desk| rows.in_use.get(desk) == Some(&true));
+        desk.map(|desk| rows.of_desk[desk].into()).ok_or(Refusal::Unknown)
     }
 
     fn number(&self, node: usize) -> usize {
@@ -83,33 +90,24 @@ impl Layout for Desks<'_> {
     }
 }
 
-/// The desks that some node has, a bit for each.
-struct InUse([u64; 3]);
-
-impl InUse {
-    fn of(desks: &[u8]) -> InUse {
-        let mut in_use = InUse([0; 3]);
-        for &desk in desks {
-            in_use.0[usize::from(desk / 64)] |= 1 << (desk % 64);
-        }
-        in_use
-    }
-
-    fn has(&self, desk: u8) -> bool {
-        desk <= HIGHEST && self.0[usize::from(desk / 64)] >> (desk % 64) & 1 == 1
-    }
-
-    fn count(&self) -> usize {
-        ones(&self.0)
-    }
-
-    /// How many there are below a desk, which is the row of one in use.
-    fn below(&self, desk: u8) -> usize {
-        let (words, word) = self.0.split_at(usize::from(desk / 64));
-        ones(words) + (word[0] & ((1 << (desk % 64)) - 1)).count_ones() as usize
-    }
+/// Which desks some node has, and the rows of these, in rising number.
+struct Rows {
+    in_use: [bool; NUMBERS],
+    of_desk: [u8; NUMBERS],
+    count: u8,
 }
 
-fn ones(words: &[u64]) -> usize {
-    words.iter().map(|word| word.count_ones() as usize).sum()
+impl Rows {
+    fn of(desks: &[u8]) -> Rows {
+        let mut in_use = [false; NUMBERS];
+        for &desk in desks {
+            in_use[usize::from(desk)] = true;
+        }
+        let (mut of_desk, mut count) = ([0; NUMBERS], 0);
+        for (row, &is_used) in of_desk.iter_mut().zip(&in_use) {
+            *row = count;
+            count += u8::from(is_used);
+        }
+        Rows { in_use, of_desk, count }
+    }
 }

@@ -151,13 +151,24 @@ fn lengths_of_plans() {
 }
 
 /// Two bytes a node are not read here: six bytes of them are two nodes of
-/// three, whose second has kind 00.
+/// three, whose second has kind 00. Whatever the desks are, a plan of either
+/// form is refused in the other.
 #[test]
 fn plain_plans_are_other_plans() {
     assert_eq!(check(&hex("02ff 0100 0100")), 0);
     assert_eq!(desk_check(&hex("02ff 0100 0100")), 2);
     assert_eq!(check(&hex("02ff01 010002")), 2);
     assert_eq!(desk_check(&hex("02ff01 010002")), 0);
+    let mut numbers = Numbers(2);
+    for plan in (1..=4).flat_map(plans).chain([plan_of(150), plan_of(160)]) {
+        assert!(matches!(desk_check(&plan), 1 | 2), "{plan:02x?}");
+        for _ in 0..20 {
+            let desks: Vec<u8> = plan.chunks(2).map(|_| numbers.below(0xa0) as u8).collect();
+            let plan = at_desks(&plan, &desks);
+            assert_eq!(desk_check(&plan), 0);
+            assert!(matches!(check(&plan), 1..=3), "{plan:02x?}");
+        }
+    }
 }
 
 /// The numbers 2 to 6 are those of the plain plan, whatever the desks are: 22
