@@ -378,7 +378,7 @@ fn a_desk_hears_itself() {
 /// A message is held against the row of the desk that decides its event, and
 /// not against the hearer's.
 #[test]
-fn the_event_s_own_desk_knows() {
+fn the_desk_of_the_event_knows() {
     let plan = SERIAL;
     let (first, third) = ([bit(START), 0, 0, 0, 0, 0, 0, 0, 0], [0, 0, 0, 0, 0, 0, bit(START), 0, 0]);
     let told = Room::new(plan, 3).with_state(&first);
@@ -433,7 +433,7 @@ fn where_results_have_a_desk() {
 
 /// A pick is decided at the desk of the parent, and its bit is set there.
 #[test]
-fn picks_are_at_the_parent_s_desk() {
+fn picks_are_at_the_desk_of_the_parent() {
     let mut room = Room::new("05ff20 010010 010030", 3);
     assert_eq!(room.keep(START, 0, HAPPENS), passed(0x20, 0x01));
     assert_eq!(room.keep(START, 0, 0x10), 0);
@@ -657,7 +657,7 @@ fn points_in_a_journal_with_desks() {
 /// An event of a simulation comes out as the step of its desk on that desk's
 /// row, and number and row are those of a site's step with the plain plan.
 #[test]
-fn a_step_knows_its_desk_s_row_alone() {
+fn a_step_knows_one_row_alone() {
     let mut numbers = Numbers(3);
     let mut met = [0; 12];
     for plain in (1..=4).flat_map(plans) {
