@@ -25,6 +25,7 @@ use Rattle.retention.specs.Record.{tableNumber, recorded, classesInto}
 use Rattle.site.specs.declared.Refusal.the-variants.{Invalid}
 use Rattle.site.specs.declared.Verdict.{Verdict}
 use Rattle.site.specs.declared.Verdict.the-variants.{Refused}
+use Rattle.site.specs.Verdict.{verdictNumber}
 use Rattle.site.specs.Step.{Stepped, stepped, stepInvalid, decide, stepAt}
 use Rattle.site.proofs.StepLaws.{step-tested, step-valid, step-invalid}
 use Rattle.job.specs.Simulation.{stepBy, Simulated, simulated, stateFits, simulate, endMarks}
@@ -37,12 +38,13 @@ use Rattle.simulation.proofs.RecordLaws.{record-refused, record-done}
 use Rattle.journal.specs.declared.Entry.{Entry}
 use Rattle.journal.specs.Journal.{Kept, kept, stepOn, keepFits, keepOf, undone, undoFits, undoNumber, undoOf}
 use Rattle.journal.proofs.UndoLaws.{keep-room}
-use Rattle.keeping.specs.Keeping.{Keeps, Undoes}
+use Rattle.keeping.specs.Keeping.{Keeps, KeptBy, Undoes}
 use Rattle.points.specs.Points.{points, pointsFit}
 use Rattle.rewind.specs.Return.{Returned, returned, pointUndoFits, pointUndoOf, backFits, pointBackOf}
 use Rattle.desks.specs.Desk.{nodes, deskOf, plain, deskCheck, DeskAccepted, used, usedBelow, deskRows, deskRow, deskLayout}
 use Rattle.desks.specs.Calls.{ownDesk, atDesk, stepAtDesk, keptAtDesk, deskStepOf, deskSimulateOf, deskKeepOf, deskUndoOf, deskPointUndoOf, deskPointBackOf, deskRecordByInto}
 use Rattle.desks.proofs.DeskLaws.{same-nodes, accepted-checks, desk-rows}
+use Rattle.desks.proofs.CallLaws.{at-number}
 use Rattle.desks.proofs.AlikeLaws.{Alike, step-alike, keep-alike, undo-alike, point-undo-alike, point-back-alike, marks-alike}
 use Rattle.desk_calls.specs.Tables.{rowByte, Prepared, DeskKeeps, DeskUndoes}
 use Rattle.desk_calls.proofs.PrepareLaws.{nodes-few, front-is}
@@ -88,6 +90,14 @@ module _ (p : List ℕ) (r : ℕ) (told : r ≡ deskCheck p) (bad : r ≡ 0 → 
 pub table-first : (p tab st m c : List ℕ) (r : ℕ) → r ≡ tableNumber tab → (r ≡ 0 → ⊥) → deskRecordByInto p tab st m c ≡ recorded r m c
 unfolding deskRecordByInto
 table-first p tab st m c r told bad = rw (ne-eqb (tableNumber tab) 0 (λ z. bad (told ∙ z)), told)
+
+-- what is kept of a verdict that names the desk is what is kept of the verdict
+module _ (v w : Verdict) (d : ℕ) (is : w ≡ atDesk d v) where
+  pub same-number : verdictNumber w ≡ verdictNumber v
+  same-number = ap (λ (x : Verdict). verdictNumber x) is ∙ at-number d v
+
+  pub kept-as : (was : Bool) (code node site len k : ℕ) (told : Verdict) (at : ℕ) (e : Entry) (k′ : ℕ) → KeptBy w was code node site len k told at e k′ → KeptBy v was code node site len k v at e k′
+  kept-as was code node site len k told at e k′ by = record { same = refl; stored = λ z. by .stored (same-number ∙ z); left = λ h. by .left (λ z. h (sym same-number ∙ z)) }
 
 -- A DESK'S STEP behind the check: n is the code's number of nodes
 module _ (p two : List ℕ) (ok : DeskAccepted p) (front : take (2 * nodes p) two ≡ plain p) (n : ℕ) (e : n ≡ nodes p) (code node : ℕ) (row : List ℕ) where
@@ -158,19 +168,19 @@ module _ (p : List ℕ) (rows : ℕ) (two home row : List ℕ) (s : Prepared p r
       via-in home v (omega arith) ∙ sym (getD-take (nodes p) home v 0 l) ∙ ap (λ (h : List ℕ). getD h v 0) (s .homes)
       ∙ table-at (λ u. rowByte p (deskOf p u)) (nodes p) v l ∙ rw (desk-rows p ok .nodes-use v l)
 
-  row-at : (d : ℕ) → d < 160 → via row d ≡ rowByte p d
-  row-at d l = via-in row d (omega (arith, ap length (s .named), table-length (rowByte p) 160)) ∙ ap (λ (r : List ℕ). getD r d 0) (s .named) ∙ table-at (rowByte p) 160 d l
+  row-at : (d : ℕ) → d < 256 → via row d ≡ rowByte p d
+  row-at d l = via-in row d (omega (arith, ap length (s .named), table-length (rowByte p) 256)) ∙ ap (λ (r : List ℕ). getD r d 0) (s .named) ∙ table-at (rowByte p) 256 d l
 
-  row-low : (d : ℕ) → d < 160 → (b : Bool) → used p d ≡ b → (via row d ≡ deskRow p d) ⊎ ((rows ≤ via row d) × (rows ≤ deskRow p d))
+  row-low : (d : ℕ) → d < 256 → (b : Bool) → used p d ≡ b → (via row d ≡ deskRow p d) ⊎ ((rows ≤ via row d) × (rows ≤ deskRow p d))
   unfolding rowByte deskRow
   row-low d l true u = inl (row-at d l ∙ rw u)
   row-low d l false u = let h = rows-few in inr (rw (row-at d l, u) (omega arith), rw u (omega (arith, s .count)))
 
-  row-high : (d : ℕ) → 160 ≤ d → (rows ≤ via row d) × (rows ≤ deskRow p d)
+  row-high : (d : ℕ) → 256 ≤ d → (rows ≤ via row d) × (rows ≤ deskRow p d)
   unfolding deskRow
   row-high d l =
       let h = rows-few in
-      let past : via row d ≡ d = via-past row d (omega (arith, ap length (s .named), table-length (rowByte p) 160)) in
+      let past : via row d ≡ d = via-past row d (omega (arith, ap length (s .named), table-length (rowByte p) 256)) in
       let none : used p d ≡ false = no-bool (used p d) (λ u. let b = desk-rows p ok .used-by d u in let m = ok .low (b .0) (b .1) in absurd (omega (arith, b .2))) in
       (rw past (omega arith), rw none (omega (arith, s .count)))
 
@@ -179,7 +189,7 @@ module _ (p : List ℕ) (rows : ℕ) (two home row : List ℕ) (s : Prepared p r
   alike = record {
     count = s .count;
     homes = λ v l. home-at v (omega (arith, same-nodes p));
-    named = λ d. cases (decided (ltb d 160)) (λ h. row-low d (ltb-true d 160 h) (used p d) refl) (λ h. inr (row-high d (ltb-false d 160 h)));
+    named = λ d. cases (decided (ltb d 256)) (λ h. row-low d (ltb-true d 256 h) (used p d) refl) (λ h. inr (row-high d (ltb-false d 256 h)));
   }
 
   laid-plain : (st : List ℕ) → length st ≡ rows * n → Laid (plain p) lay st
@@ -198,9 +208,12 @@ module _ (p : List ℕ) (rows : ℕ) (two home row : List ℕ) (s : Prepared p r
   unfolding stateFits deskLayout
   fits-is st = rw (same-nodes p, e, s .count)
 
+  pub repeat-ready : (st : List ℕ) → length st ≡ rows * n → (size (take (2 * n) two) ≤ 160) × (length st ≡ rows * size (take (2 * n) two))
+  repeat-ready st long = let h = nodes-few p ok in rw plan-size (omega (arith, e), long)
+
   -- the table of rows has no more entries than there are bytes
   pub row-short : length row ≤ 256
-  row-short = omega (arith, ap length (s .named), table-length (rowByte p) 160)
+  row-short = omega (arith, ap length (s .named), table-length (rowByte p) 256)
 
   -- the code's tests of the lengths, passed
   module _ (st : List ℕ) where
@@ -321,10 +334,10 @@ module _ (p : List ℕ) (rows : ℕ) (two home row : List ℕ) (s : Prepared p r
     unfolding deskKeepOf stepOn
     keep-done len k room v at x st′ k′ h es l =
         let on : keepOf (plain p) lay (via row) st es k code node desk ≡ kept (simulated st′ v) (set es at x) k′ =
-            ap (λ (q : List ℕ). keepOf q lay (via row) st es k code node desk) (sym plan-is) ∙ h es l in
+        ap (λ (q : List ℕ). keepOf q lay (via row) st es k code node desk) (sym plan-is) ∙ h es l in
         let there = sym (keep-alike (plain p) lay (via row) (deskLayout p) (deskRow p) alike st es k code node desk) ∙ on in
         let done : simulate (plain p) lay st (stepBy (via row) code node desk) ≡ simulated st′ v =
-            sym (keep-room (plain p) lay (via row) st es k code node desk (rw l room)) ∙ ap (λ (a : Kept). a .step) on in
+        sym (keep-room (plain p) lay (via row) st es k code node desk (rw l room)) ∙ ap (λ (a : Kept). a .step) on in
         rw zero (ap (keptAtDesk (ownDesk p code node)) there ∙ ap (λ (y : Simulated). kept y (set es at x) k′) (named-own (simulated st′ v) done))
 
   pub undo-done : (st : List ℕ) (len k : ℕ) (x : Entry) (r : ℕ) (st′ : List ℕ) (k′ : ℕ) → Undoes (take (2 * n) two) lay (via row) st len k x r st′ k′ → DeskUndoes p st len k x r st′ k′

@@ -28,12 +28,12 @@ marked-few fs d = let h = keep-short (isMarked fs) (upFrom 0 d) in omega (arith,
 -- of the marks fs those below d are numbered, and n of them were set
 pub record Numbering (fs : List ℕ) (top : ℕ) (row : List ℕ) (n d : ℕ) : Type 0 where
   pub within : d ≤ top
-  pub long : length row ≡ 160
+  pub long : length row ≡ 256
   pub done : (i : ℕ) → i < d → getD row i 0 ≡ cond (isMarked fs i) (markedBelow fs i) (getD fs i 0)
   pub rest : (i : ℕ) → d ≤ i → getD row i 0 ≡ getD fs i 0
   pub count : n ≡ markedBelow fs d
 
-pub numbering-none : (fs : List ℕ) (top : ℕ) → length fs ≡ 160 → Numbering fs top fs 0 0
+pub numbering-none : (fs : List ℕ) (top : ℕ) → length fs ≡ 256 → Numbering fs top fs 0 0
 unfolding markedBelow keep upFrom
 numbering-none fs top e = record { within = omega arith; long = e; done = λ i l. absurd (omega arith); rest = λ i l. refl; count = refl }
 
@@ -63,8 +63,8 @@ module _ (fs : List ℕ) (top : ℕ) (row : List ℕ) (n d : ℕ) (s : Numbering
     pub numbered-count : n ≡ markedBelow fs top
     numbered-count = s .count ∙ ap (markedBelow fs) all-done
 
-    pub numbered-all : row ≡ table (numberedByte fs top) 160
+    pub numbered-all : row ≡ table (numberedByte fs top) 256
     unfolding numberedByte
-    numbered-all = table-by (numberedByte fs top) 160 row (s .long) (λ i l. cases (decided (ltb i top))
+    numbered-all = table-by (numberedByte fs top) 256 row (s .long) (λ i l. cases (decided (ltb i top))
         (λ h. s .done i (let z = ltb-true i top h in omega (arith, all-done)) ∙ rw h)
         (λ h. s .rest i (let z = ltb-false i top h in omega (arith, all-done)) ∙ rw h))

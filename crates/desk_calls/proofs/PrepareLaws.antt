@@ -5,7 +5,7 @@ use mathlib.Core.List.{List}
 use Prim.Native.Nat.{ℕ, zero, suc, _+_, _-_, _*_, _%_, _≤_, _<_}
 use native.Mathlib.Nat.{le-antisymm}
 use native.Mathlib.Omega.{arith}
-use borrow.Author.Tests.{eqb-true, ltb-true, ltb-false, leb-true, ne-eqb, not-true, not-false}
+use borrow.Author.Tests.{eqb-true, ltb-true, ltb-false, leb-true, ne-eqb, le-leb, lt-leb, not-true, not-false}
 use lib.Dec.{eqb, ltb, leb}
 use lib.ListN.{length, getD, take, length-take}
 use lib.Seq.{getD-take}
@@ -22,7 +22,6 @@ use Rattle.desks.proofs.DeskLaws.{same-nodes}
 use Rattle.desks.proofs.RankLaws.{rank-end}
 use Rattle.desk_calls.specs.Tables.{isMarked, markedBelow, numberedByte, markOf, rowByte}
 use Rattle.desk_calls.proofs.SplitLaws.{fill-front}
-use Rattle.desk_calls.proofs.MarkingLaws.{desk-low}
 
 -- an answer r of the code says that its test passed, or failed
 pub passed : (r t : Bool) → r ≡ t → not r ≡ false → t ≡ true
@@ -61,24 +60,29 @@ module _ (p : List ℕ) where
     unfolding deskCheck
     check-plain bad = rw (long, ← told, ne-eqb r 0 bad)
 
-    pub check-22 : r ≡ 0 → desksLow p ≡ false → 22 ≡ deskCheck p
-    unfolding deskCheck
-    check-22 z h = rw (long, ← told, z, h)
+    -- no desk is above 9f if the number above them all is at most 160
+    module _ (top : ℕ) (low : desksLow p ≡ leb top 160) (z : r ≡ 0) where
+      pub check-22 : 160 < top → 22 ≡ deskCheck p
+      unfolding deskCheck
+      check-22 h = rw (long, ← told, z, low, lt-leb top 160 h)
 
-    pub check-0 : r ≡ 0 → desksLow p ≡ true → 0 ≡ deskCheck p
-    unfolding deskCheck
-    check-0 z h = rw (long, ← told, z, h)
+      pub check-0 : top ≤ 160 → 0 ≡ deskCheck p
+      unfolding deskCheck
+      check-0 h = rw (long, ← told, z, low, le-leb top 160 h)
+
+pub desk-low : (p : List ℕ) → DeskAccepted p → (v : ℕ) → v < nodes p → deskOf p v < 160
+desk-low p ok v l = let h = ok .low v l in omega arith
 
 pub nodes-few : (p : List ℕ) → DeskAccepted p → nodes p ≤ 160
 nodes-few p ok = let h = ok .accepted .few in omega (arith, same-nodes p)
 
 -- THE ROWS, from marks of the desks in use; those are below top
-module _ (p : List ℕ) (fs : List ℕ) (marks : fs ≡ table (markOf p) 160) (top : ℕ) (most : top ≤ 160) (above : (d : ℕ) → used p d ≡ true → d < top) where
-  mark-at : (d : ℕ) → d < 160 → getD fs d 0 ≡ cond (used p d) 0 255
+module _ (p : List ℕ) (fs : List ℕ) (marks : fs ≡ table (markOf p) 256) (top : ℕ) (most : top ≤ 160) (above : (d : ℕ) → used p d ≡ true → d < top) where
+  mark-at : (d : ℕ) → d < 256 → getD fs d 0 ≡ cond (used p d) 0 255
   unfolding markOf
-  mark-at d l = ap (λ (s : List ℕ). getD s d 0) marks ∙ table-at (markOf p) 160 d l
+  mark-at d l = ap (λ (s : List ℕ). getD s d 0) marks ∙ table-at (markOf p) 256 d l
 
-  marked-is : (d : ℕ) → d < 160 → isMarked fs d ≡ used p d
+  marked-is : (d : ℕ) → d < 256 → isMarked fs d ≡ used p d
   unfolding isMarked
   marked-is d l = rw (mark-at d l) (go (used p d))
     where
@@ -86,7 +90,7 @@ module _ (p : List ℕ) (fs : List ℕ) (marks : fs ≡ table (markOf p) 160) (t
       go true = refl
       go false = refl
 
-  marked-used : (n : ℕ) → n ≤ 160 → markedBelow fs n ≡ usedBelow p n
+  marked-used : (n : ℕ) → n ≤ 256 → markedBelow fs n ≡ usedBelow p n
   unfolding markedBelow usedBelow
   marked-used n l = ap length (keep-same (isMarked fs) (used p) (upFrom 0 n) (λ d i. marked-is d (let b = up-in 0 n i in omega (arith, b .1))))
 
@@ -103,9 +107,9 @@ module _ (p : List ℕ) (fs : List ℕ) (marks : fs ≡ table (markOf p) 160) (t
       rw (e, r, z) (omega (arith, used-past n))
 
   pub rows-are : markedBelow fs top ≡ deskRows p
-  rows-are = let e : 160 - top + top ≡ 160 = omega arith in marked-used top most ∙ sym (used-past (160 - top)) ∙ ap (usedBelow p) e
+  rows-are = let e : 160 - top + top ≡ 160 = omega arith in marked-used top (omega arith) ∙ sym (used-past (160 - top)) ∙ ap (usedBelow p) e
 
-  row-is : (d : ℕ) → d < 160 → numberedByte fs top d ≡ rowByte p d
+  row-is : (d : ℕ) → d < 256 → numberedByte fs top d ≡ rowByte p d
   unfolding numberedByte rowByte
   row-is d l = rw (marked-is d l, marked-used d (omega arith), mark-at d l) (cases (decided (ltb d top))
       (λ h. rw h (inner (used p d)))
@@ -115,13 +119,13 @@ module _ (p : List ℕ) (fs : List ℕ) (marks : fs ≡ table (markOf p) 160) (t
       inner true = refl
       inner false = refl
 
-  pub table-rows : table (numberedByte fs top) 160 ≡ table (rowByte p) 160
-  table-rows = table-by (rowByte p) 160 _ (table-length (numberedByte fs top) 160) (λ d l. table-at (numberedByte fs top) 160 d l ∙ row-is d l)
+  pub table-rows : table (numberedByte fs top) 256 ≡ table (rowByte p) 256
+  table-rows = table-by (rowByte p) 256 _ (table-length (numberedByte fs top) 256) (λ d l. table-at (numberedByte fs top) 256 d l ∙ row-is d l)
 
 -- EVERY NODE'S ROW, by the table of rows
-module _ (p : List ℕ) (ok : DeskAccepted p) (row : List ℕ) (is : row ≡ table (rowByte p) 160) where
+module _ (p : List ℕ) (ok : DeskAccepted p) (row : List ℕ) (is : row ≡ table (rowByte p) 256) where
   pub home-in : (v : ℕ) → v < nodes p → (d : ℕ) → d ≡ deskOf p v → d < length row
-  home-in v l d e = let h = desk-low p ok v l in omega (arith, ap length is, table-length (rowByte p) 160)
+  home-in v l d e = let h = desk-low p ok v l in omega (arith, ap length is, table-length (rowByte p) 256)
 
   pub homes-are : (home : List ℕ) (v : ℕ) → v ≤ nodes p → nodes p ≤ v → Filling (λ u. getD row (deskOf p u) 0) 160 home v →
       take (nodes p) home ≡ table (λ u. rowByte p (deskOf p u)) (nodes p)
@@ -130,4 +134,4 @@ module _ (p : List ℕ) (ok : DeskAccepted p) (row : List ℕ) (is : row ≡ tab
       let f : ℕ → ℕ = λ u. getD row (deskOf p u) 0 in
       subst (λ (k : ℕ). take k home ≡ table f k) e (fill-front f 160 home v t)
       ∙ table-by (λ u. rowByte p (deskOf p u)) (nodes p) (table f (nodes p)) (table-length f (nodes p))
-      (λ i l. table-at f (nodes p) i l ∙ ap (λ (s : List ℕ). getD s (deskOf p i) 0) is ∙ table-at (rowByte p) 160 (deskOf p i) (desk-low p ok i l))
+      (λ i l. table-at f (nodes p) i l ∙ ap (λ (s : List ℕ). getD s (deskOf p i) 0) is ∙ table-at (rowByte p) 256 (deskOf p i) (let h = desk-low p ok i l in omega arith))

@@ -39,7 +39,7 @@ pub record Prepared (p : List ℕ) (rows : ℕ) (two home row : List ℕ) : Type
   pub front : take (2 * nodes p) two ≡ plain p
   pub count : rows ≡ deskRows p
   pub homes : take (nodes p) home ≡ table (λ v. rowByte p (deskOf p v)) (nodes p)
-  pub named : row ≡ table (rowByte p) 160
+  pub named : row ≡ table (rowByte p) 256
 
 -- L2: a step whose entry e goes to place `at` of len entries, whatever these are; past their end nothing is stored
 abbrev pub DeskKeeps : List ℕ → List ℕ → ℕ → ℕ → ℕ → ℕ → ℕ → Verdict → ℕ → Entry → List ℕ → ℕ → Type 0

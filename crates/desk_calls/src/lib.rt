@@ -44,60 +44,22 @@ fn length_ok(plan: &[u8]) -> bool
     0 < n && n <= 480
 }
 
-// The plain plan, in the front of `two`; answers whether no desk is above 9f. One loop for both: a desk costs nothing beside its node's other bytes.
-fn split(plan: &[u8], two: &mut [u8]) -> bool
-    requires { ⌜ (length (now two) ≡ 320) × (nodes (now plan) ≤ 160) ⌝ }
-    ensures { λ r. ⌜ r ≡ desksLow (now (plan .entry)) ⌝ }
+// The plain plan, in the front of `two`, and the desks in use marked by 0; answers a number that is above all of them. One loop for all of it: the marks
+// cost nothing beside the copy.
+fn split(plan: &[u8], two: &mut [u8], row: &mut [u8]) -> usize
+    requires { ⌜ (length (now two) ≡ 320) × (nodes (now plan) ≤ 160) × (now row ≡ replicate 256 255) ⌝ }
     ensures { λ _. ⌜ take (2 * nodes (now (plan .entry))) (now (two .exit)) ≡ plain (now (plan .entry)) ⌝ }
-{
-    let n = node_count(plan);
-    let mut low = true;
-    let mut v = 0;
-    while v < n {
-        two[2 * v] = plan[3 * v];
-        two[2 * v + 1] = plan[3 * v + 1];
-        low = low & (desk_at(plan, v) <= 159);
-        v += 1;
-    }
-    low
-}
-
-// The number of the check; where that is 0, the plain plan is in the front of `two`.
-fn check_into(plan: &[u8], two: &mut [u8]) -> u8
-    requires { ⌜ length (now two) ≡ 320 ⌝ }
-    ensures { λ r. ⌜ r ≡ deskCheck (now (plan .entry)) ⌝ }
-    ensures { λ r. ⌜ (r ≡ 0 → take (2 * nodes (now (plan .entry))) (now (two .exit)) ≡ plain (now (plan .entry))) ⌝ }
-{
-    if !length_ok(plan) {
-        return 1;
-    }
-    let low = split(plan, two);
-    let n = node_count(plan);
-    let number = checker::check(&two[..2 * n]);
-    if number != 0 {
-        return number;
-    }
-    if low { 0 } else { 22 }
-}
-
-// The check of a plan with desks.
-pub fn check(plan: &[u8]) -> u8
-    ensures { λ r. ⌜ r ≡ deskCheck (now (plan .entry)) ⌝ }
-{
-    let mut two = [0u8; 320];
-    check_into(plan, &mut two)
-}
-
-// Marks the desks in use by 0; answers a number that is above all of them.
-fn mark_used(plan: &[u8], row: &mut [u8]) -> usize
-    requires { ⌜ DeskAccepted (now plan) × (now row ≡ replicate 160 255) ⌝ }
-    ensures { λ _. ⌜ now (row .exit) ≡ table (markOf (now (plan .entry))) 160 ⌝ }
-    ensures { λ r. ⌜ (r ≤ 160) × ((d : ℕ) → used (now (plan .entry)) d ≡ true → d < r) ⌝ }
+    ensures { λ _. ⌜ now (row .exit) ≡ table (markOf (now (plan .entry))) 256 ⌝ }
+    ensures { λ r. ⌜ (desksLow (now (plan .entry)) ≡ leb r 160) × ((d : ℕ) → used (now (plan .entry)) d ≡ true → d < r) ⌝ }
 {
     let n = node_count(plan);
     let mut top = 0;
     let mut v = 0;
     while v < n {
+        let kind = plan[3 * v];
+        let parent = plan[3 * v + 1];
+        two[2 * v] = kind;
+        two[2 * v + 1] = parent;
         let d = plan::wide(desk_at(plan, v));
         row[d] = 0;
         if top <= d {
@@ -106,6 +68,43 @@ fn mark_used(plan: &[u8], row: &mut [u8]) -> usize
         v += 1;
     }
     top
+}
+
+// The number of the check, and a number that is above all desks in use.
+struct Checked {
+    number: u8,
+    top: usize,
+}
+
+// The check; where its number is 0, the plain plan is in the front of `two`, and the desks in use are marked by 0.
+fn check_into(plan: &[u8], two: &mut [u8], row: &mut [u8]) -> Checked
+    requires { ⌜ (length (now two) ≡ 320) × (now row ≡ replicate 256 255) ⌝ }
+    ensures { λ r. ⌜ r .number ≡ deskCheck (now (plan .entry)) ⌝ }
+    ensures { λ r. ⌜ (r .number ≡ 0 → (take (2 * nodes (now (plan .entry))) (now (two .exit)) ≡ plain (now (plan .entry))) × (now (row .exit) ≡ table (markOf (now (plan .entry))) 256) × (r .top ≤ 160) × ((d : ℕ) → used (now (plan .entry)) d ≡ true → d < r .top)) ⌝ }
+{
+    if !length_ok(plan) {
+        return Checked { number: 1, top: 0 };
+    }
+    let top = split(plan, two, row);
+    let n = node_count(plan);
+    let number = checker::check(&two[..2 * n]);
+    if number != 0 {
+        return Checked { number, top };
+    }
+    Checked {
+        number: if top <= 160 { 0 } else { 22 },
+        top,
+    }
+}
+
+// The check of a plan with desks.
+pub fn check(plan: &[u8]) -> u8
+    ensures { λ r. ⌜ r ≡ deskCheck (now (plan .entry)) ⌝ }
+{
+    let mut two = [0u8; 320];
+    let mut row = [255u8; 256];
+    let found = check_into(plan, &mut two, &mut row);
+    found.number
 }
 
 // A marked desk's row, or the byte as it is.
@@ -125,9 +124,9 @@ fn next_row(b: u8, row: u8) -> u8
 
 // Numbers the marked desks below `top` in rising number; answers how many they are.
 fn number_rows(row: &mut [u8], top: usize) -> usize
-    requires { ⌜ (length (now row) ≡ 160) × (top ≤ 160) ⌝ }
+    requires { ⌜ (length (now row) ≡ 256) × (top ≤ 160) ⌝ }
     ensures { λ r. ⌜ r ≡ markedBelow (now (row .entry)) top ⌝ }
-    ensures { λ _. ⌜ now (row .exit) ≡ table (numberedByte (now (row .entry)) top) 160 ⌝ }
+    ensures { λ _. ⌜ now (row .exit) ≡ table (numberedByte (now (row .entry)) top) 256 ⌝ }
 {
     let mut count = 0;
     let mut d = 0;
@@ -142,7 +141,7 @@ fn number_rows(row: &mut [u8], top: usize) -> usize
 
 // Every node's row, in the front of `home`.
 fn write_homes(plan: &[u8], row: &[u8], home: &mut [u8])
-    requires { ⌜ DeskAccepted (now plan) × (now row ≡ table (rowByte (now plan)) 160) × (length (now home) ≡ 160) ⌝ }
+    requires { ⌜ DeskAccepted (now plan) × (now row ≡ table (rowByte (now plan)) 256) × (length (now home) ≡ 160) ⌝ }
     ensures { λ _. ⌜ take (nodes (now (plan .entry))) (now (home .exit)) ≡ table (λ v. rowByte (now (plan .entry)) (deskOf (now (plan .entry)) v)) (nodes (now (plan .entry))) ⌝ }
 {
     let n = node_count(plan);
@@ -161,18 +160,20 @@ struct Preparation {
 
 // Checks a plan and, where it is accepted, leaves its plain plan and the tables of its layout.
 fn prepare(plan: &[u8], two: &mut [u8], home: &mut [u8], row: &mut [u8]) -> Preparation
-    requires { ⌜ (length (now two) ≡ 320) × (length (now home) ≡ 160) × (now row ≡ replicate 160 255) ⌝ }
+    requires { ⌜ (length (now two) ≡ 320) × (length (now home) ≡ 160) × (now row ≡ replicate 256 255) ⌝ }
     ensures { λ r. ⌜ r .number ≡ deskCheck (now (plan .entry)) ⌝ }
     ensures { λ r. ⌜ (r .number ≡ 0 → Prepared (now (plan .entry)) (r .rows) (now (two .exit)) (now (home .exit)) (now (row .exit))) ⌝ }
 {
-    let number = check_into(plan, two);
-    if number != 0 {
-        return Preparation { number, rows: 0 };
+    let found = check_into(plan, two, row);
+    if found.number != 0 {
+        return Preparation {
+            number: found.number,
+            rows: 0,
+        };
     }
-    let top = mark_used(plan, row);
-    let rows = number_rows(row, top);
+    let rows = number_rows(row, found.top);
     write_homes(plan, row, home);
-    Preparation { number, rows }
+    Preparation { number: 0, rows }
 }
 
 // The desk that decides an event of the plan; of what is none, 0.
@@ -213,9 +214,10 @@ pub fn step(plan: &[u8], code: u32, node: u32, row: &mut [u8]) -> site::Verdict
     ensures { λ r. ⌜ deskStepOf (now (plan .entry)) code node (now (row .entry)) ≡ stepped (now (row .exit)) r ⌝ }
 {
     let mut two = [0u8; 320];
-    let number = check_into(plan, &mut two);
-    if number != 0 {
-        return site::Verdict::Refused(site::Refusal::Invalid(number));
+    let mut marks = [255u8; 256];
+    let found = check_into(plan, &mut two, &mut marks);
+    if found.number != 0 {
+        return site::Verdict::Refused(site::Refusal::Invalid(found.number));
     }
     let n = node_count(plan);
     if row.len() != n {
@@ -235,7 +237,7 @@ pub fn simulate(plan: &[u8], code: u32, node: u32, desk: u32, state: &mut [u8]) 
 {
     let mut two = [0u8; 320];
     let mut home = [0u8; 160];
-    let mut row = [255u8; 160];
+    let mut row = [255u8; 256];
     let at = prepare(plan, &mut two, &mut home, &mut row);
     if at.number != 0 {
         return site::Verdict::Refused(site::Refusal::Invalid(at.number));
@@ -245,16 +247,7 @@ pub fn simulate(plan: &[u8], code: u32, node: u32, desk: u32, state: &mut [u8]) 
         return site::Verdict::Refused(site::Refusal::Invalid(7));
     }
     let own = own_desk(plan, &two[..2 * n], code, node);
-    let v = layout::simulate(
-        &two[..2 * n],
-        &home,
-        &row,
-        at.rows,
-        code,
-        node,
-        desk,
-        state,
-    );
+    let v = layout::simulate(&two[..2 * n], &home, &row, at.rows, code, node, desk, state);
     at_desk(own, v)
 }
 
@@ -272,7 +265,7 @@ pub fn keep(
 {
     let mut two = [0u8; 320];
     let mut home = [0u8; 160];
-    let mut row = [255u8; 160];
+    let mut row = [255u8; 256];
     let at = prepare(plan, &mut two, &mut home, &mut row);
     if at.number != 0 {
         return keeping::Kept {
@@ -290,25 +283,9 @@ pub fn keep(
         };
     }
     let own = own_desk(plan, &two[..2 * n], code, node);
-    let a = keeping::keep_on(
-        &two[..2 * n],
-        &home,
-        &row,
-        at.rows,
-        code,
-        node,
-        desk,
-        state,
-        len,
-        count,
-    );
-    let verdict = a.verdict;
-    let entry = a.entry;
-    keeping::Kept {
-        verdict: at_desk(own, verdict),
-        at: a.at,
-        entry,
-    }
+    let was = keeping::is_repeat(&two[..2 * n], &row, at.rows, code, node, desk, state);
+    let v = layout::simulate(&two[..2 * n], &home, &row, at.rows, code, node, desk, state);
+    keeping::kept_by(at_desk(own, v), was, code, node, desk, len, count)
 }
 
 // The last entry taken back.
@@ -317,7 +294,7 @@ pub fn undo(plan: &[u8], state: &mut [u8], len: usize, count: &mut usize, e: Ent
 {
     let mut two = [0u8; 320];
     let mut home = [0u8; 160];
-    let mut row = [255u8; 160];
+    let mut row = [255u8; 256];
     let at = prepare(plan, &mut two, &mut home, &mut row);
     if at.number != 0 {
         return at.number;
@@ -326,7 +303,17 @@ pub fn undo(plan: &[u8], state: &mut [u8], len: usize, count: &mut usize, e: Ent
     if !((state.len() == at.rows * n) & (*count <= len)) {
         return 7;
     }
-    keeping::undo_on(&two[..2 * n], &home, &row, at.rows, state, len, count, e)
+    let k = *count;
+    if k == 0 {
+        return 16;
+    }
+    let fault = keeping::entry_fault(&two[..2 * n], &row, at.rows, e);
+    if fault != 0 {
+        return fault;
+    }
+    keeping::take_back(&two[..2 * n], &home, &row, at.rows, state, e);
+    *count = k - 1;
+    0
 }
 
 // The last entry taken back, and the points that it passes dropped.
@@ -342,7 +329,7 @@ pub fn point_undo(
 {
     let mut two = [0u8; 320];
     let mut home = [0u8; 160];
-    let mut row = [255u8; 160];
+    let mut row = [255u8; 256];
     let at = prepare(plan, &mut two, &mut home, &mut row);
     if at.number != 0 {
         return at.number;
@@ -380,7 +367,7 @@ pub fn point_back(
 {
     let mut two = [0u8; 320];
     let mut home = [0u8; 160];
-    let mut row = [255u8; 160];
+    let mut row = [255u8; 256];
     let at = prepare(plan, &mut two, &mut home, &mut row);
     if at.number != 0 {
         return at.number;
@@ -415,7 +402,7 @@ pub fn record_by(plan: &[u8], tab: &[u8], state: &[u8], marks: &mut [u8], classe
     }
     let mut two = [0u8; 320];
     let mut home = [0u8; 160];
-    let mut row = [255u8; 160];
+    let mut row = [255u8; 256];
     let at = prepare(plan, &mut two, &mut home, &mut row);
     if at.number != 0 {
         return at.number;

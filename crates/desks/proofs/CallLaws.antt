@@ -36,7 +36,7 @@ use Rattle.desks.specs.Calls.{ownDesk, atDesk, stepAtDesk, deskStepOf, d
 use Rattle.desks.proofs.DeskLaws.{same-nodes, accepted-checks, desk-rows}
 
 -- the answer's desk is not in its number
-at-number : (d : ℕ) (v : Verdict) → verdictNumber (atDesk d v) ≡ verdictNumber v
+pub at-number : (d : ℕ) (v : Verdict) → verdictNumber (atDesk d v) ≡ verdictNumber v
 unfolding atDesk reportOf
 at-number d (Passed e) = refl
 at-number d Heard = refl

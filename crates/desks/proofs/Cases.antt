@@ -3,14 +3,14 @@ use mathlib.Core.Path.{_≡_, refl}
 use mathlib.Core.List.{List, [], _∷_, _++_}
 use Prim.Native.Nat.{ℕ, zero, suc}
 use lib.ListN.{replicate}
-use Rattle.lists.specs.Seq.{all, any, keep as keepThose, upFrom, allBelow, table, headOr, lastOr}
+use Rattle.lists.specs.Seq.{all, any, keep as keepThose, upFrom, allBelow, table, headOr}
 use Rattle.plan.specs.Plan.{kindNumber, isKind, kindOf, size, kindByte, kind, parent, aboveByte, childrenBelow, children, childCount, above, inXor, depthWithin, depth}
 use Rattle.plan.specs.Check.{lengthOk, kindOk, parentOk, underBlock, fits, countOk, depthOk, atAll, checkNumber, fitNumber}
 use Rattle.event.specs.Event.{codeNumber, codeOf, isCode, appliesBy, applies, known}
 use Rattle.event.specs.Site.{hostBy, hostOf, siteOf}
 use Rattle.event.specs.Bit.{weight, hasBit, withBit, withoutBit}
 use Rattle.event.specs.Valid.{eventFault, invalid}
-use Rattle.guard.specs.Guard.{beforeIn, isFirst, startBy, finishBy, abortBy, finishing, aborting, guardBy, guard, holds, barsBy, bars, barred}
+use Rattle.guard.specs.Guard.{beforeIn, isFirst, startBy, guardBy, guard, holds, barsBy, bars, barred}
 use Rattle.guard.specs.Rule.{ruleKind, isPicked, ruleByte}
 use Rattle.central.specs.Mark.{markNumber}
 use Rattle.retention.specs.Record.{commonTable, frameOk, tableOk, tableNumber, classOf, aboveWithin, nodesAbove, fell, countsAbove, countsAs, class, recordOf, recorded}
@@ -40,6 +40,10 @@ oneOf = 5 ∷ 255 ∷ 7 ∷ 1 ∷ 0 ∷ 3 ∷ 1 ∷ 0 ∷ 0 ∷ []
 -- a desk too high
 abbrev high : List ℕ
 high = 2 ∷ 255 ∷ 160 ∷ 1 ∷ 0 ∷ 0 ∷ []
+
+-- the lowest desk and the highest
+abbrev ends : List ℕ
+ends = 2 ∷ 255 ∷ 159 ∷ 1 ∷ 0 ∷ 0 ∷ []
 
 -- n serials and a task, each the only child of the node before, from u on
 pub links : ℕ → ℕ → List ℕ
@@ -99,6 +103,9 @@ Rows =
     × (deskRow four 0 ≡ 3)
     × (deskRow four 3 ≡ 3)
     × (deskRow four 160 ≡ 3)
+    × (deskRows ends ≡ 2)
+    × (deskRow ends 0 ≡ 0)
+    × (deskRow ends 159 ≡ 1)
 
 -- N4 to N6: a step of a simulation, on four, oneOf and plans that are refused
 abbrev pub Simulations : Type 0
@@ -157,7 +164,7 @@ blank = entry 9 9 9 9
 
 abbrev pub Keeps : Type 0
 Keeps =
-    (deskKeepOf high [] [] 0 0 0 0 ≡ kept (simulated [] (invalid-as 22)) [] 0)
+    (deskKeepOf high (1 ∷ []) (blank ∷ []) 5 1 0 255 ≡ kept (simulated (1 ∷ []) (invalid-as 22)) (blank ∷ []) 5)
     × (deskKeepOf four (state idle idle idle) (blank ∷ []) 1 0 0 0 ≡ kept (simulated (state idle idle idle) (invalid-as 7)) (blank ∷ []) 1)
     × (deskKeepOf four (state idle idle (row 1 0 0 0)) (blank ∷ []) 0 1 0 1 ≡ kept (simulated (state idle idle (row 1 0 0 0)) (invalid-as 8)) (blank ∷ []) 0)
     × (deskKeepOf four (state idle idle (row 1 0 0 0)) (blank ∷ []) 0 1 0 255 ≡ kept (simulated (state idle idle (row 1 0 0 0)) (Refused (Barred 9))) (blank ∷ []) 0)
@@ -209,17 +216,17 @@ Records =
     × (deskRecordByInto high [] [] [] [] ≡ recorded 21 [] [])
     × (deskRecordInto [] [] [] [] ≡ recorded 1 [] [])
     × (deskRecordInto (2 ∷ 255 ∷ 160 ∷ []) [] [] [] ≡ recorded 5 [] [])
-    × (deskRecordInto high [] [] [] ≡ recorded 22 [] [])
+    × (deskRecordInto high [] (1 ∷ []) [] ≡ recorded 22 (1 ∷ []) [])
     × (deskRecordInto four [] idle idle ≡ recorded 7 idle idle)
     × (deskRecordInto four heardAll [] idle ≡ recorded 7 [] idle)
     × (deskRecordInto four heardAll idle idle ≡ recorded 0 (row 1 3 1 0) (row 0 3 3 0))
     × (deskRecordByInto four (0 ∷ 0 ∷ 1 ∷ 1 ∷ 2 ∷ 2 ∷ 3 ∷ 3 ∷ 4 ∷ 3 ∷ 5 ∷ 3 ∷ []) heardAll idle idle ≡ recorded 0 (row 1 3 1 0) (row 0 2 1 0))
 
 pub all-right : Checks × Rows × Simulations × Steps × Keeps × Undos × Returns × Records
-unfolding links deskCheck threes desksLow nodes deskOf plain plainByte used usedBelow deskRow deskLayout ownDesk atDesk deskStepOf deskSimulateOf deskKeepOf deskUndoOf deskPointUndoOf deskPointBackOf deskRecordByInto pointUndoOf pointUndoFits returnedBy backOf backFits pointBackOf pointsFit nonePast namedOnce slotOf firstSlot sameName dropped keepOf keptIf keepFits stepOn entryOf isSet target sited entryFault undoFits undoNumber takenBack undoOf recordByOn recordByNumber recordNumber tableNumber tableOk frameOk recordOf class classOf countsAs countsAbove nodesAbove aboveWithin fell commonTable siteOf hostOf hostBy stepBy simulate happen tell stateFits rowOf withRow markBy markAt endMarks markNumber eventFault invalid known applies appliesBy isCode codeOf codeNumber stepAt stepInvalid decide reportOf ruleByte isPicked ruleKind heard heardIn hear unhear hasBit withBit withoutBit weight fitNumber checkNumber lengthOk kindOk parentOk underBlock fits countOk depthOk atAll size kindByte kind kindOf kindNumber isKind parent aboveByte childrenBelow children childCount depth depthWithin above inXor guard guardBy startBy finishBy abortBy finishing aborting isFirst headOr beforeIn holds barred bars barsBy all any keepThose upFrom allBelow table lastOr
+unfolding links deskCheck threes desksLow nodes deskOf plain plainByte used usedBelow deskRow deskLayout ownDesk atDesk deskStepOf deskSimulateOf deskKeepOf deskUndoOf deskPointUndoOf deskPointBackOf deskRecordByInto pointUndoOf pointUndoFits returnedBy backOf backFits pointBackOf pointsFit nonePast namedOnce slotOf firstSlot sameName dropped keepOf keptIf keepFits stepOn entryOf isSet target sited entryFault undoFits undoNumber takenBack undoOf recordByOn recordByNumber recordNumber tableNumber tableOk frameOk recordOf class classOf countsAs countsAbove nodesAbove aboveWithin fell commonTable siteOf hostOf hostBy stepBy simulate happen tell stateFits rowOf withRow markBy markAt endMarks markNumber eventFault invalid known applies appliesBy isCode codeOf codeNumber stepAt stepInvalid decide reportOf ruleByte isPicked ruleKind heard heardIn hear unhear hasBit withBit withoutBit weight fitNumber checkNumber lengthOk kindOk parentOk underBlock fits countOk depthOk atAll size kindByte kind kindOf kindNumber isKind parent aboveByte childrenBelow children childCount depth depthWithin above inXor guard guardBy startBy isFirst headOr beforeIn holds barred bars barsBy all any keepThose upFrom allBelow table
 all-right = (
   (refl, refl, refl, refl, refl, refl, refl, refl, refl, refl, refl, refl, refl, refl),
-  (refl, refl, refl, refl, refl, refl, refl),
+  (refl, refl, refl, refl, refl, refl, refl, refl, refl, refl),
   (refl, refl, refl, refl, refl, refl, refl, refl, refl, refl, refl, refl, refl, refl, refl, refl, refl, refl, refl, refl, refl, refl, refl, refl, refl, refl, refl),
   (refl, refl, refl, refl, refl, refl, refl, refl, refl),
   (refl, refl, refl, refl, refl, refl, refl, refl),

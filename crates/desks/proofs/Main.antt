@@ -10,9 +10,11 @@ use Rattle.desks.proofs.CallLaws.{at-once, call-number, call-state, ste
 use Rattle.desks.proofs.PlainLaws.{same-as-plain}
 use Rattle.desks.proofs.OneLaws.{one-follows}
 
+-- N2
 pub desk-check-exact : DeskCheckExact
 desk-check-exact p = (check-accepts p, accepted-checks p)
 
+-- N3 to N8
 pub desked : Desked
 desked p ok = record {
   same-nodes = same-nodes p;
@@ -33,8 +35,10 @@ desked p ok = record {
   returning = returning (plain p) (ok .accepted) (deskLayout p) (housed p ok) (deskRow p);
 }
 
+-- N9
 pub own-desks : OwnDesks
 own-desks = same-as-plain
 
+-- N10
 pub one-desk : OneDesk
 one-desk = one-follows

@@ -67,7 +67,7 @@ module _ (p : List ℕ) (lay : Layout) (row : ℕ → ℕ) (st : List ℕ) (code
   unfolding stepOn stepBy simulate
   number-happen z = z
 
-  event-unset : verdictNumber (stepOn p lay row st code node 255 .verdict) ≡ 0 → isSet p lay row st code node 255 ≡ false
+  pub event-unset : verdictNumber (stepOn p lay row st code node 255 .verdict) ≡ 0 → isSet p lay row st code node 255 ≡ false
   unfolding isSet target isCode
   event-unset z =
       let v = step-ok p lay row st code node 255 z in

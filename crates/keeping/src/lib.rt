@@ -1,16 +1,17 @@
-// A step kept in the journal, and the last one taken back, as code: over any layout of rows (`keep_on`, `undo_on`, whose callers have checked the plan
-// and the lengths), and on a plan of two bytes a node (`keep`, `undo`, which check them). The entries themselves are the caller's: a function here
-// answers where an entry goes, or is handed the last one (specs/Keeping.antt).
+// A step kept in the journal, and the last one taken back, as code: what they are made of for any layout of rows (`is_repeat`, `kept_by`, `entry_fault`,
+// `take_back`, whose callers have checked the plan and the lengths), and both on a plan of two bytes a node (`keep`, `undo`, which check them). The
+// entries themselves are the caller's: a function here answers where an entry goes, or is handed the last one (specs/Keeping.antt).
 ghost use mathlib.Core.Path.{_≡_};
-ghost use mathlib.Core.Bool.{cond};
+ghost use mathlib.Core.Bool.{false, cond};
 ghost use Prim.Native.Nat.{ℕ, _+_, _*_, _<_, _≤_};
 ghost use lib.ListN.{length};
 ghost use mathlib.Core.List.{List};
 ghost use Rattle.plan.specs.Plan.{size};
 ghost use Rattle.event.specs.Site.{own};
+ghost use Rattle.site.specs.Verdict.{verdictNumber};
 ghost use Rattle.layout.specs.Layout.{via, layoutBy, Laid};
 ghost use Rattle.journal.specs.Journal.{noEntry, target, isSet, sited, entryFault, takenBack};
-ghost use Rattle.keeping.specs.Keeping.{Keeps, Undoes};
+ghost use Rattle.keeping.specs.Keeping.{Keeps, KeptBy, Undoes};
 use journal::Entry;
 
 // A step's answer, and where its entry goes: past the end of the entries where it was refused.
@@ -32,20 +33,9 @@ pub fn no_entry() -> Entry
     }
 }
 
-// The row in which a step sets its bit.
-fn target(plan: &[u8], home: &[u8], row: &[u8], code: u8, node: u8, site: u32) -> usize
-    ensures { λ r. ⌜ ((rows : ℕ) → r ≡ target (now (plan .entry)) (layoutBy rows (now (home .entry))) (via (now (row .entry))) code node site) ⌝ }
-{
-    if site == 255 {
-        return layout::via(home, plan::wide(event::host(plan, code, node)));
-    }
-    layout::via(row, site as usize)
-}
-
-// Whether that bit is set; of what is no event of the plan, no bit is.
-fn is_set(
+// A message that is a repeat: its bit is set in the row of the site that it tells. Of what is no event of the plan no bit is, and an event is no message.
+pub fn is_repeat(
     plan: &[u8],
-    home: &[u8],
     row: &[u8],
     rows: usize,
     code: u32,
@@ -53,13 +43,17 @@ fn is_set(
     site: u32,
     state: &[u8],
 ) -> bool
-    requires { ⌜ Laid (now plan) (layoutBy rows (now home)) (now state) ⌝ }
-    ensures { λ r. ⌜ r ≡ isSet (now (plan .entry)) (layoutBy rows (now (home .entry))) (via (now (row .entry))) (now (state .entry)) code node site ⌝ }
+    requires { ⌜ (size (now plan) ≤ 160) × (length (now state) ≡ rows * size (now plan)) ⌝ }
+    ensures { λ r. ⌜ (site ≡ 255 → r ≡ false) ⌝ }
+    ensures { λ r. ⌜ ((site ≡ 255 → ⊥) → (home : List ℕ) → r ≡ isSet (now (plan .entry)) (layoutBy rows home) (via (now (row .entry))) (now (state .entry)) code node site) ⌝ }
 {
+    if site == 255 {
+        return false;
+    }
     if !event::known(plan, code, node) {
         return false;
     }
-    let q = target(plan, home, row, code as u8, node as u8, site);
+    let q = layout::via(row, site as usize);
     if rows <= q {
         return false;
     }
@@ -86,25 +80,20 @@ fn entry_of(code: u32, node: u32, site: u32, was: bool) -> Entry
     }
 }
 
-// A step, and the entry that keeps it.
-pub fn keep_on(
-    plan: &[u8],
-    home: &[u8],
-    row: &[u8],
-    rows: usize,
+// What is kept of a step with the verdict v: its entry at the count, which is then one more; of a refused one nothing.
+pub fn kept_by(
+    v: site::Verdict,
+    was: bool,
     code: u32,
     node: u32,
     site: u32,
-    state: &mut [u8],
     len: usize,
     count: &mut usize,
 ) -> Kept
-    requires { ⌜ Laid (now plan) (layoutBy rows (now home)) (now state) ⌝ }
-    requires { ⌜ (length (now row) ≤ 256) × (now count < len) ⌝ }
-    ensures { λ r. ⌜ Keeps (now (plan .entry)) (layoutBy rows (now (home .entry))) (via (now (row .entry))) (now (state .entry)) len (now (count .entry)) code node site (r .verdict) (r .at) (r .entry) (now (state .exit)) (now (count .exit)) ⌝ }
+    requires { ⌜ (verdictNumber v ≡ 0 → (code < 256) × (node < 256) × (site < 256)) ⌝ }
+    requires { ⌜ now count < len ⌝ }
+    ensures { λ r. ⌜ KeptBy v was code node site len (now (count .entry)) (r .verdict) (r .at) (r .entry) (now (count .exit)) ⌝ }
 {
-    let was = is_set(plan, home, row, rows, code, node, site, state);
-    let v = layout::simulate(plan, home, row, rows, code, node, site, state);
     let report = site::report_of(v);
     if report.number != 0 {
         return Kept {
@@ -145,7 +134,19 @@ pub fn keep(
             entry: no_entry(),
         };
     }
-    keep_on(plan, &none, &none, n, code, node, site, state, len, count)
+    let was = is_repeat(plan, &none, n, code, node, site, state);
+    let v = layout::simulate(plan, &none, &none, n, code, node, site, state);
+    kept_by(v, was, code, node, site, len, count)
+}
+
+// The row in which a step set its bit.
+fn target(plan: &[u8], home: &[u8], row: &[u8], code: u8, node: u8, site: u32) -> usize
+    ensures { λ r. ⌜ ((rows : ℕ) → r ≡ target (now (plan .entry)) (layoutBy rows (now (home .entry))) (via (now (row .entry))) code node site) ⌝ }
+{
+    if site == 255 {
+        return layout::via(home, plan::wide(event::host(plan, code, node)));
+    }
+    layout::via(row, site as usize)
 }
 
 // The site of an entry is one, or the entry is an event's.
@@ -185,34 +186,6 @@ pub fn take_back(plan: &[u8], home: &[u8], row: &[u8], rows: usize, state: &mut 
     state[at] = event::without_bit(state[at], e.code);
 }
 
-// The last entry taken back.
-pub fn undo_on(
-    plan: &[u8],
-    home: &[u8],
-    row: &[u8],
-    rows: usize,
-    state: &mut [u8],
-    len: usize,
-    count: &mut usize,
-    e: Entry,
-) -> u8
-    requires { ⌜ Laid (now plan) (layoutBy rows (now home)) (now state) ⌝ }
-    requires { ⌜ now count ≤ len ⌝ }
-    ensures { λ r. ⌜ Undoes (now (plan .entry)) (layoutBy rows (now (home .entry))) (via (now (row .entry))) (now (state .entry)) len (now (count .entry)) e r (now (state .exit)) (now (count .exit)) ⌝ }
-{
-    let k = *count;
-    if k == 0 {
-        return 16;
-    }
-    let fault = entry_fault(plan, row, rows, e);
-    if fault != 0 {
-        return fault;
-    }
-    take_back(plan, home, row, rows, state, e);
-    *count = k - 1;
-    0
-}
-
 // The last entry taken back on a plan of two bytes a node.
 pub fn undo(plan: &[u8], state: &mut [u8], len: usize, count: &mut usize, e: Entry) -> u8
     ensures { λ r. ⌜ Undoes (now (plan .entry)) (own (now (plan .entry))) (λ q. q) (now (state .entry)) len (now (count .entry)) e r (now (state .exit)) (now (count .exit)) ⌝ }
@@ -224,5 +197,15 @@ pub fn undo(plan: &[u8], state: &mut [u8], len: usize, count: &mut usize, e: Ent
     if number != 0 {
         return number;
     }
-    undo_on(plan, &none, &none, n, state, len, count, e)
+    let k = *count;
+    if k == 0 {
+        return 16;
+    }
+    let fault = entry_fault(plan, &none, n, e);
+    if fault != 0 {
+        return fault;
+    }
+    take_back(plan, &none, &none, n, state, e);
+    *count = k - 1;
+    0
 }
