@@ -1,6 +1,6 @@
 -- The calls behind the preparation: refused by the check, refused for a length, and done on the plain plan with its tables. Assumes nothing.
 use mathlib.Core.Path.{_≡_, refl, sym, _∙_, ap, subst}
-use mathlib.Core.Bool.{Bool, true, false, cond, not, _&&_}
+use mathlib.Core.Bool.{Bool, true, false, not, _&&_}
 use mathlib.Core.List.{List}
 use mathlib.Core.Logic.{_⊎_, inl, inr}
 use Prim.Native.Nat.{ℕ, _*_, _-_, _≤_, _<_}
@@ -10,7 +10,7 @@ use borrow.Author.Tests.{ne-eqb, eq-eqb, eqb-true, eqb-false, ltb-true, ltb-fals
 use lib.Dec.{eqb, ltb, leb}
 use lib.ListN.{length, getD, take, set, length-take}
 use lib.Seq.{getD-take, set-out}
-use Rattle.lists.specs.Seq.{table, upFrom}
+use Rattle.lists.specs.Seq.{upFrom}
 use Rattle.lists.proofs.Logic.{cases, decided, no-bool, and-left, and-right, and-join}
 use Rattle.lists.proofs.Keep.{keep-short}
 use Rattle.lists.proofs.Table.{table-length, table-at, up-length}
@@ -36,12 +36,12 @@ use Rattle.layout.proofs.StepLaws.{simulate-event, simulate-message, happen-ref
 use Rattle.simulation.specs.Run.{recordNumber, recordByOn}
 use Rattle.simulation.proofs.RecordLaws.{record-refused, record-done}
 use Rattle.journal.specs.declared.Entry.{Entry}
-use Rattle.journal.specs.Journal.{Kept, kept, stepOn, keepFits, keepOf, undone, undoFits, undoNumber, undoOf}
+use Rattle.journal.specs.Journal.{Kept, kept, stepOn, keepFits, keepOf, undoFits, undoNumber, undoOf}
 use Rattle.journal.proofs.UndoLaws.{keep-room}
 use Rattle.keeping.specs.Keeping.{Keeps, KeptBy, Undoes}
 use Rattle.points.specs.Points.{points, pointsFit}
 use Rattle.rewind.specs.Return.{Returned, returned, pointUndoFits, pointUndoOf, backFits, pointBackOf}
-use Rattle.desks.specs.Desk.{nodes, deskOf, plain, deskCheck, DeskAccepted, used, usedBelow, deskRows, deskRow, deskLayout}
+use Rattle.desks.specs.Desk.{nodes, deskOf, plain, deskCheck, DeskAccepted, used, usedBelow, deskRow, deskLayout}
 use Rattle.desks.specs.Calls.{ownDesk, atDesk, stepAtDesk, keptAtDesk, deskStepOf, deskSimulateOf, deskKeepOf, deskUndoOf, deskPointUndoOf, deskPointBackOf, deskRecordByInto}
 use Rattle.desks.proofs.DeskLaws.{same-nodes, desk-rows}
 use Rattle.desks.proofs.CallLaws.{at-number, on-plain, desk-step, keep-plain, undo-plain, point-undo-plain, point-back-plain, record-plain}

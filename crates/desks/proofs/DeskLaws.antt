@@ -1,5 +1,5 @@
 -- A plan with desks as a plan of two bytes a node with a layout (rules N1 to N4): the plain plan, the check, and the rows. Assumes nothing.
-use mathlib.Core.Path.{_≡_, refl, sym, _∙_, ap}
+use mathlib.Core.Path.{_≡_, refl, _∙_, ap}
 use mathlib.Core.Bool.{true, false, cond, not, _&&_}
 use mathlib.Core.List.{List}
 use mathlib.Core.Logic.{_⊎_}
@@ -44,11 +44,11 @@ unfolding parent
 plain-parent p v l = plain-at p v 1 l (omega arith)
 
 -- THE CHECK
-whole-threes : (p : List ℕ) → threes p ≡ true → length p ≡ 3 * nodes p
+pub whole-threes : (p : List ℕ) → threes p ≡ true → length p ≡ 3 * nodes p
 unfolding threes nodes
 whole-threes p h = let e = eqb-true (length p % 3) 0 (and-left _ _ (and-left _ _ h)) in omega arith
 
-pub threes-whole : (p : List ℕ) → length p ≡ 3 * nodes p → 0 < nodes p → nodes p ≤ 160 → threes p ≡ true
+threes-whole : (p : List ℕ) → length p ≡ 3 * nodes p → 0 < nodes p → nodes p ≤ 160 → threes p ≡ true
 unfolding threes
 threes-whole p e l m =
     let r : length p % 3 ≡ 0 = omega arith in
@@ -71,7 +71,7 @@ check-accepts p h =
 
 -- each test in turn
 module _ (p : List ℕ) where
-  check-short : threes p ≡ false → deskCheck p ≡ 1
+  pub check-short : threes p ≡ false → deskCheck p ≡ 1
   unfolding deskCheck
   check-short h = rw h
 

@@ -6,12 +6,13 @@ use Rattle.hosts.proofs.Main.{hosts-covered}
 use Rattle.journal.proofs.Main.{journaled}
 use Rattle.rewind.proofs.Main.{returning}
 use Rattle.desks.specs.Desk.{plain, DeskCheckExact, DeskNumbers, deskRow, deskLayout}
-use Rattle.desks.specs.Claim.{Desked, OwnDesks, OneDesk}
+use Rattle.desks.specs.Claim.{Desked, OwnDesks, OneDesk, FormsApart}
 use Rattle.desks.proofs.DeskLaws.{same-nodes, plain-kind, plain-parent, check-length, check-by-plain, check-by-desk, check-accepts, accepted-checks, desk-rows, housed, named}
 use Rattle.desks.proofs.CallLaws.{at-number, at-once, on-plain, keep-plain, undo-plain, point-undo-plain, point-back-plain, record-plain, step-number, step-row, event-at, message-own}
 use Rattle.desks.proofs.OwnLaws.{own-form}
 use Rattle.desks.proofs.PlainLaws.{same-as-plain}
 use Rattle.desks.proofs.OneLaws.{one-follows}
+use Rattle.desks.proofs.FormLaws.{plain-read, desks-read}
 
 -- N2
 pub desk-check-exact : DeskCheckExact
@@ -55,3 +56,7 @@ own-desks = record { same = same-as-plain; every = own-form }
 -- N10
 pub one-desk : OneDesk
 one-desk = one-follows
+
+-- N11
+pub forms-apart : FormsApart
+forms-apart = record { plain-read = plain-read; desks-read = desks-read }

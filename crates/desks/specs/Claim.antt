@@ -1,10 +1,11 @@
--- THE CLAIMS OF DESKS (rules N3 to N10): which row each desk has, in plain terms; what a simulation's event is at its desk; that demand 3, the hosts, the
--- journal and going back hold with desks in place of sites; that a desk for every node changes nothing; and what one desk for all nodes gives.
+-- THE CLAIMS OF DESKS (rules N3 to N11): which row each desk has, in plain terms; what a simulation's event is at its desk; that demand 3, the hosts, the
+-- journal and going back hold with desks in place of sites; that a desk for every node changes nothing; what one desk for all nodes gives; and that
+-- neither form of a plan is taken for the other.
 -- Each field stands under its rule. Definitions only.
 use mathlib.Core.Path.{_≡_}
 use mathlib.Core.Bool.{true, false, cond}
 use mathlib.Core.List.{List}
-use mathlib.Core.Logic.{_↔_}
+use mathlib.Core.Logic.{_↔_, _⊎_}
 use Prim.Native.Nat.{ℕ, _*_, _/_, _+_, _%_, _≤_, _<_}
 use lib.Dec.{eqb}
 use lib.ListN.{length, getD}
@@ -122,3 +123,8 @@ abbrev pub OneDesk : Type 0
 OneDesk = (p : List ℕ) → DeskAccepted p → (d : ℕ) → ((v : ℕ) → v < nodes p → deskOf p v ≡ d) → (ts : List Step) (e : Event) →
     (verdictNumber (deskSimulateOf p (codeNumber (e .code)) (e .node) 255 (replay (plain p) (deskLayout p) ts) .verdict) ≡ 0)
     ↔ (allowed (plain p) (centralAfter (plain p) (deskLayout p) ts) e ≡ true)
+
+-- CLAIM (N11). Neither form of a plan is taken for the other: read in the other form, an accepted plan is refused with 1 or 2.
+pub record FormsApart : Type 0 where
+  pub plain-read : (p : List ℕ) → Accepted p → (deskCheck p ≡ 1) ⊎ (deskCheck p ≡ 2)
+  pub desks-read : (p : List ℕ) → DeskAccepted p → (checkNumber p ≡ 1) ⊎ (checkNumber p ≡ 2)
