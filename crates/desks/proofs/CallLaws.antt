@@ -25,7 +25,7 @@ use Rattle.site.specs.declared.Refusal.the-variants.{Invalid, Barred, Unmet, Un
 use Rattle.site.specs.declared.Verdict.{Verdict}
 use Rattle.site.specs.declared.Verdict.the-variants.{Passed, Heard, Refused}
 use Rattle.site.specs.Verdict.{reportOf, verdictNumber}
-use Rattle.site.specs.Step.{Stepped, stepped, stepInvalid, decide, stepAt, stepOf}
+use Rattle.site.specs.Step.{stepped, stepInvalid, decide, stepAt, stepOf}
 use Rattle.site.proofs.StepLaws.{number-any-site}
 use Rattle.runs.proofs.Said.{same-event}
 use Rattle.job.specs.Simulation.{rowOf, Step, event, message, stepBy, simulated, stateFits, rowStepped, happen, tell, simulate, stepNumber, passedOf, heardOf, passedFrom, heardFrom, zeros, passed, heardAt}
@@ -118,11 +118,12 @@ module _ (p : List ℕ) (ok : DeskAccepted p) where
   unfolding deskRecordByInto
   record-plain tab right st m c = rw (right, accepted-checks p ok)
 
+  pub step-plain : (code node : ℕ) (row : List ℕ) →
+      deskStepOf p code node row ≡ stepped (stepOf (plain p) code node row .row) (atDesk (ownDesk p code node) (stepOf (plain p) code node row .verdict))
+  step-plain code node row = desk-step code node row ∙ sym (at-step (plain p) _ (ownDesk p code node) code node row)
+
   pub step-number : (code node : ℕ) (row : List ℕ) → verdictNumber (deskStepOf p code node row .verdict) ≡ verdictNumber (stepOf (plain p) code node row .verdict)
   step-number code node row = rw (desk-step code node row) (number-any-site (plain p) _ _ code node row)
-
-  pub step-row : (code node : ℕ) (row : List ℕ) → deskStepOf p code node row .row ≡ stepOf (plain p) code node row .row
-  step-row code node row = rw (desk-step code node row) (ap (λ (s : Stepped). s .row) (sym (at-step (plain p) _ (ownDesk p code node) code node row)))
 
   -- N4: the event's site is its desk's row
   pub own-site : (code node : ℕ) → siteOf (plain p) (deskLayout p) (eventOf code node) ≡ deskRow p (ownDesk p code node)

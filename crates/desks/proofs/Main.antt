@@ -8,7 +8,7 @@ use Rattle.rewind.proofs.Main.{returning}
 use Rattle.desks.specs.Desk.{plain, DeskCheckExact, DeskNumbers, deskRow, deskLayout}
 use Rattle.desks.specs.Claim.{Desked, OwnDesks, OneDesk, FormsApart}
 use Rattle.desks.proofs.DeskLaws.{same-nodes, plain-kind, plain-parent, check-length, check-by-plain, check-by-desk, check-accepts, accepted-checks, desk-rows, housed, named}
-use Rattle.desks.proofs.CallLaws.{at-number, at-once, on-plain, keep-plain, undo-plain, point-undo-plain, point-back-plain, record-plain, step-number, step-row, event-at, message-own}
+use Rattle.desks.proofs.CallLaws.{at-number, at-once, on-plain, keep-plain, undo-plain, point-undo-plain, point-back-plain, record-plain, step-plain, event-at, message-own}
 use Rattle.desks.proofs.OwnLaws.{own-form}
 use Rattle.desks.proofs.PlainLaws.{same-as-plain}
 use Rattle.desks.proofs.OneLaws.{one-follows}
@@ -32,8 +32,7 @@ desked p ok = record {
   housed = housed p ok;
   named = named p ok;
   event = event-at p ok;
-  step-number = step-number p ok;
-  step-row = step-row p ok;
+  step = step-plain p ok;
   own-message = message-own p ok;
   at-once = at-once (plain p) (deskLayout p);
   simulates = on-plain p ok;

@@ -21,7 +21,7 @@ use Rattle.retention.specs.Record.{tableNumber}
 use Rattle.site.specs.declared.Verdict.{Verdict}
 use Rattle.site.specs.declared.Verdict.the-variants.{Heard}
 use Rattle.site.specs.Verdict.{verdictNumber}
-use Rattle.site.specs.Step.{stepOf}
+use Rattle.site.specs.Step.{stepped, stepOf}
 use Rattle.job.specs.Simulation.{rowOf, simulated, rowStepped, Step, replay, passed, heardAt}
 use Rattle.job.specs.Claim.{Claim, centralAfter}
 use Rattle.hosts.specs.Hosts.{HostClaim}
@@ -61,9 +61,9 @@ pub record DeskClaim (p : List ℕ) : Type 0 where
   pub event : (code node : ℕ) (st : List ℕ) → length st ≡ deskRows p * nodes p → eventFault (plain p) true code node ≡ 0 →
       deskSimulateOf p code node 255 st
       ≡ rowStepped (plain p) st (deskRow p (ownDesk p code node)) (deskStepOf p code node (rowOf (plain p) st (deskRow p (ownDesk p code node))))
-  -- N7: and that step has the number of a site's, and leaves the row so
-  pub step-number : (code node : ℕ) (row : List ℕ) → verdictNumber (deskStepOf p code node row .verdict) ≡ verdictNumber (stepOf (plain p) code node row .verdict)
-  pub step-row : (code node : ℕ) (row : List ℕ) → deskStepOf p code node row .row ≡ stepOf (plain p) code node row .row
+  -- N7: and that step is a site's with the plain plan, but for the desk that its answer names
+  pub step : (code node : ℕ) (row : List ℕ) →
+      deskStepOf p code node row ≡ stepped (stepOf (plain p) code node row .row) (atDesk (ownDesk p code node) (stepOf (plain p) code node row .verdict))
   -- N5: a message to the event's own desk is a repeat
   pub own-message : (code node : ℕ) (st : List ℕ) → length st ≡ deskRows p * nodes p → eventFault (plain p) true code node ≡ 0 →
       heard (rowOf (plain p) st (deskRow p (ownDesk p code node))) (eventOf code node) ≡ true →
