@@ -42,7 +42,8 @@
  * vulcedar_desk_.. take plans with desks. In their parameters, entries and results a desk stands where the others have a
  * site, and 8 refuses every desk that is not in use. All other calls take plain plans: a desk hears by vulcedar_hear with
  * its row and the plain plan. A plan in which each node has its own number for a desk is treated by the calls with desks
- * just as its plain plan is by the others.
+ * just as its plain plan is by the others. Neither form is taken for the other: a plan that one check accepts, the other
+ * refuses with 1 or 2.
  *
  * RECORDS. Every node's mark (enum vulcedar_mark) and class (enum vulcedar_class, how long its work is kept). A block has
  * no class. A task's class is what a table has for the mark as which the task counts: its own mark, unless it committed;

@@ -1,7 +1,7 @@
 /*
  * What include/vulcedar.h and docs/GUIDE.md say about calling, tried: null pointers with length 0, where a result has a
- * site, the rule beside a guard, the common table, the version, a journal and its points, and what a false message does.
- * Compiled as C and as C++.
+ * site, the rule beside a guard, the common table, the version, a journal and its points, plans with desks, and what a false
+ * message does. Compiled as C and as C++.
  */
 #include <inttypes.h>
 #include <stdio.h>
@@ -16,6 +16,7 @@ LAYOUT(entry, sizeof(vulcedar_entry) == 4 && offsetof(vulcedar_entry, code) == 0
 LAYOUT(entry_behind, offsetof(vulcedar_entry, site) == 2 && offsetof(vulcedar_entry, changed) == 3);
 LAYOUT(points, sizeof(vulcedar_points) == 256 && offsetof(vulcedar_points, names) == 0 && offsetof(vulcedar_points, places) == 128);
 LAYOUT(limits, VULCEDAR_POINTS_MOST == 16 && VULCEDAR_NAME_LENGTH == 8 && VULCEDAR_UNKNOWN_POINT == 19 && VULCEDAR_NO_FREE_POINT == 20);
+LAYOUT(desks, VULCEDAR_DESK_HIGHEST == 0x9f && VULCEDAR_BAD_DESK == 22 && VULCEDAR_DESK_HIGHEST + 1 == VULCEDAR_NODES_MOST);
 
 static int wrong;
 
@@ -25,6 +26,8 @@ static void expect(const char *what, uint32_t is, uint32_t should)
     printf("header: %s is %08" PRIx32 ", not %08" PRIx32 "\n", what, is, should);
     wrong++;
 }
+
+static uint8_t byte_of(size_t number) { return number & 0xffu; }
 
 /* A result from its parts. */
 static uint32_t result(uint32_t number, uint32_t middle, uint32_t value) { return number + 256u * middle + 65536u * value; }
@@ -89,6 +92,42 @@ static void nulls(void)
     expect("central on nothing", vulcedar_central(plan, sizeof plan, VULCEDAR_START, 0, NULL, 0, NULL, 0), VULCEDAR_BAD_BUFFER);
     expect("record by table of no state", vulcedar_record_by(plan, sizeof plan, table, sizeof table, NULL, 0, NULL, 0, NULL, 0), VULCEDAR_BAD_BUFFER);
     expect("pass's record without answers", vulcedar_pass_record(plan, sizeof plan, table, sizeof table, NULL, 0, NULL, 0, NULL, 0), VULCEDAR_BAD_BUFFER);
+}
+
+/* The same of the calls with desks. */
+static void desk_nulls(void)
+{
+    static const uint8_t plan[] = { VULCEDAR_TASK, VULCEDAR_NO_PARENT, 7 };
+    static const uint8_t table[] = VULCEDAR_COMMON_TABLE;
+    static const uint8_t name[VULCEDAR_NAME_LENGTH] = { 0 };
+    uint8_t state[1] = { 0 }, names[VULCEDAR_POINTS_MOST * VULCEDAR_NAME_LENGTH] = { 0 };
+    uint64_t places[VULCEDAR_POINTS_MOST] = { 0 };
+    size_t count = 0;
+    expect("check with desks of nothing", vulcedar_desk_check(NULL, 0), VULCEDAR_BAD_LENGTH);
+    expect("step at a desk of nothing", vulcedar_desk_step(NULL, 0, VULCEDAR_START, 0, NULL, 0), VULCEDAR_BAD_LENGTH);
+    expect("simulate with desks of nothing", vulcedar_desk_simulate(NULL, 0, VULCEDAR_START, 0, 0, NULL, 0), VULCEDAR_BAD_LENGTH);
+    expect("keep with desks of nothing", vulcedar_desk_keep(NULL, 0, VULCEDAR_START, 0, 0, NULL, 0, NULL, 0, &count), VULCEDAR_BAD_LENGTH);
+    expect("undo with desks of nothing", vulcedar_desk_undo(NULL, 0, NULL, 0, NULL, 0, &count), VULCEDAR_BAD_LENGTH);
+    expect("undo with desks and points of nothing", vulcedar_desk_point_undo(NULL, 0, NULL, 0, NULL, 0, &count, NULL, 0, NULL, 0), VULCEDAR_BAD_LENGTH);
+    expect("going back with desks in nothing", vulcedar_desk_point_back(NULL, 0, NULL, 0, NULL, 0, NULL, 0, &count, NULL, 0, NULL, 0), VULCEDAR_BAD_LENGTH);
+    expect("record with desks of nothing", vulcedar_desk_record(NULL, 0, NULL, 0, NULL, 0, NULL, 0), VULCEDAR_BAD_LENGTH);
+    expect("record with desks by no table", vulcedar_desk_record_by(NULL, 0, NULL, 0, NULL, 0, NULL, 0, NULL, 0), VULCEDAR_BAD_TABLE);
+    expect("record with desks by a table", vulcedar_desk_record_by(NULL, 0, table, sizeof table, NULL, 0, NULL, 0, NULL, 0), VULCEDAR_BAD_LENGTH);
+
+    expect("step at a desk on nothing", vulcedar_desk_step(plan, sizeof plan, VULCEDAR_START, 0, NULL, 0), VULCEDAR_BAD_BUFFER);
+    expect("simulate with desks on nothing", vulcedar_desk_simulate(plan, sizeof plan, VULCEDAR_START, 0, VULCEDAR_HAPPENS, NULL, 0), VULCEDAR_BAD_BUFFER);
+    expect("keep with desks on nothing", vulcedar_desk_keep(plan, sizeof plan, VULCEDAR_START, 0, VULCEDAR_HAPPENS, NULL, 0, NULL, 0, &count), VULCEDAR_BAD_BUFFER);
+    expect("keep with desks in no journal", vulcedar_desk_keep(plan, sizeof plan, VULCEDAR_START, 0, VULCEDAR_HAPPENS, state, 1, NULL, 0, &count), VULCEDAR_BAD_BUFFER);
+    expect("undo with desks on nothing", vulcedar_desk_undo(plan, sizeof plan, NULL, 0, NULL, 0, &count), VULCEDAR_BAD_BUFFER);
+    expect("undo with desks in no journal", vulcedar_desk_undo(plan, sizeof plan, state, 1, NULL, 0, &count), VULCEDAR_NOTHING_TO_UNDO);
+    expect("undo with desks without points", vulcedar_desk_point_undo(plan, sizeof plan, state, 1, NULL, 0, &count, NULL, 0, NULL, 0), VULCEDAR_BAD_BUFFER);
+    expect("undo with desks and points in no journal", vulcedar_desk_point_undo(plan, sizeof plan, state, 1, NULL, 0, &count, names, sizeof names, places, VULCEDAR_POINTS_MOST), VULCEDAR_NOTHING_TO_UNDO);
+    expect("going back with desks without a name", vulcedar_desk_point_back(plan, sizeof plan, NULL, 0, state, 1, NULL, 0, &count, names, sizeof names, places, VULCEDAR_POINTS_MOST), VULCEDAR_BAD_BUFFER);
+    expect("going back with desks to no point", vulcedar_desk_point_back(plan, sizeof plan, name, sizeof name, state, 1, NULL, 0, &count, names, sizeof names, places, VULCEDAR_POINTS_MOST), VULCEDAR_UNKNOWN_POINT);
+    expect("naming the beginning", vulcedar_point_name(name, sizeof name, 0, names, sizeof names, places, VULCEDAR_POINTS_MOST), VULCEDAR_PASSED);
+    expect("going back with desks in no journal", vulcedar_desk_point_back(plan, sizeof plan, name, sizeof name, state, 1, NULL, 0, &count, names, sizeof names, places, VULCEDAR_POINTS_MOST), VULCEDAR_PASSED);
+    expect("record with desks of no state", vulcedar_desk_record(plan, sizeof plan, NULL, 0, NULL, 0, NULL, 0), VULCEDAR_BAD_BUFFER);
+    expect("record with desks by table of no state", vulcedar_desk_record_by(plan, sizeof plan, table, sizeof table, NULL, 0, NULL, 0, NULL, 0), VULCEDAR_BAD_BUFFER);
 }
 
 /* An xor of two tasks: the parts of results, site 0 among them. */
@@ -369,6 +408,137 @@ static void tables(void)
     expect("a table of 11 bytes", vulcedar_check_table(table, sizeof table - 1), VULCEDAR_BAD_TABLE);
 }
 
+/* An xor at desk 20, its first child at desk 10, its second at the xor's desk: rows of desks 10 and 20. */
+static const uint8_t shared[] = { VULCEDAR_XOR, VULCEDAR_NO_PARENT, 0x20, VULCEDAR_TASK, 0, 0x10, VULCEDAR_TASK, 0, 0x20 };
+static struct { uint8_t state[2][3]; vulcedar_entry entries[8]; size_t count; } office;
+
+static uint32_t desk_keep(uint32_t code, uint32_t node, uint32_t desk)
+{
+    return vulcedar_desk_keep(shared, sizeof shared, code, node, desk, office.state[0], sizeof office.state, office.entries, 8, &office.count);
+}
+
+static uint32_t desk_undo(void) { return vulcedar_desk_undo(shared, sizeof shared, office.state[0], sizeof office.state, office.entries, 8, &office.count); }
+
+static uint32_t desk_undo_to_points(void)
+{
+    return vulcedar_desk_point_undo(shared, sizeof shared, office.state[0], sizeof office.state, office.entries, 8, &office.count, points.names, sizeof points.names, points.places, VULCEDAR_POINTS_MOST);
+}
+
+static uint32_t desk_back_to(char letter)
+{
+    return vulcedar_desk_point_back(shared, sizeof shared, called(letter), VULCEDAR_NAME_LENGTH, office.state[0], sizeof office.state, office.entries, 8, &office.count, points.names, sizeof points.names, points.places, VULCEDAR_POINTS_MOST);
+}
+
+/* A row of the office: that of desk 10, or of desk 20. */
+static void expect_row(const char *what, size_t row, uint32_t first, uint32_t second, uint32_t third)
+{
+    const uint8_t *r = office.state[row];
+    expect(what, r[0] == first && r[1] == second && r[2] == third, 1);
+}
+
+/* A job with desks, kept: who hears of what, where results name a desk, and all the way back. */
+static void desks(void)
+{
+    static const uint8_t plain[] = { VULCEDAR_XOR, VULCEDAR_NO_PARENT, VULCEDAR_TASK, 0, VULCEDAR_TASK, 0 };
+    static const uint8_t ends[] = { VULCEDAR_RUNNING, VULCEDAR_OFFERED, VULCEDAR_RUNNING };
+    uint8_t row[3] = { 0, 0, 0 }, marks[3], classes[3];
+    memset(&office, 0, sizeof office);
+    memset(&points, 0, sizeof points);
+    expect("early message", desk_keep(VULCEDAR_START, 0, 0x20), result(VULCEDAR_NOT_HAPPENED, 0, 0));
+    expect("start at desk 20", desk_keep(VULCEDAR_START, 0, VULCEDAR_HAPPENS), result(VULCEDAR_PASSED, 0x20, 0x01));
+    expect("the same again", desk_keep(VULCEDAR_START, 0, VULCEDAR_HAPPENS), result(VULCEDAR_BARRED, 0x20, 0));
+    expect("start of 2, which shares the desk", desk_keep(VULCEDAR_START, 2, VULCEDAR_HAPPENS), result(VULCEDAR_PASSED, 0x20, 0x51));
+    expect("early start of 1", desk_keep(VULCEDAR_START, 1, VULCEDAR_HAPPENS), result(VULCEDAR_UNMET, 0x10, 0));
+    expect("message to the own desk", desk_keep(VULCEDAR_START, 0, 0x20), result(VULCEDAR_PASSED, 0, 0));
+    expect("is a repeat", office.count == 3 && office.entries[2].site == 0x20 && office.entries[2].changed == 0, 1);
+    expect("message to desk 10", desk_keep(VULCEDAR_START, 0, 0x10), result(VULCEDAR_PASSED, 0, 0));
+    expect_row("what desk 10 has heard", 0, 1, 0, 0);
+    expect("start of 1", desk_keep(VULCEDAR_START, 1, VULCEDAR_HAPPENS), result(VULCEDAR_PASSED, 0x10, 0x51));
+    expect("naming", vulcedar_point_name(called('a'), VULCEDAR_NAME_LENGTH, office.count, points.names, sizeof points.names, points.places, VULCEDAR_POINTS_MOST), VULCEDAR_PASSED);
+    expect("offer of 1", desk_keep(VULCEDAR_OFFER, 1, VULCEDAR_HAPPENS), result(VULCEDAR_PASSED, 0x10, 0x12));
+    expect("record", vulcedar_desk_record(shared, sizeof shared, office.state[0], sizeof office.state, marks, 3, classes, 3), VULCEDAR_PASSED);
+    expect("its marks", memcmp(marks, ends, 3) == 0, 1);
+    expect("message of it", desk_keep(VULCEDAR_OFFER, 1, 0x20), VULCEDAR_PASSED);
+    expect("pick of 1, at the desk of its parent", desk_keep(VULCEDAR_PICK, 1, VULCEDAR_HAPPENS), result(VULCEDAR_PASSED, 0x20, 0x57));
+    expect_row("its bit is there", 1, 1, 1u << (VULCEDAR_OFFER - 1) | 1u << (VULCEDAR_PICK - 1), 1);
+    expect("a full journal", desk_keep(VULCEDAR_PICK, 1, 0x10), VULCEDAR_BAD_BUFFER);
+    expect("undo of the pick", desk_undo(), VULCEDAR_PASSED);
+    expect_row("its bit is cleared there", 1, 1, 1u << (VULCEDAR_OFFER - 1), 1);
+    expect("going back", desk_back_to('a'), VULCEDAR_PASSED);
+    expect_row("to the start of 1", 0, 1, 1, 0);
+    expect("undo past the point", desk_undo_to_points(), VULCEDAR_PASSED);
+    expect("its slot is free", points.places[0] == 0 && office.count == 4, 1);
+    expect("going back to it", desk_back_to('a'), VULCEDAR_UNKNOWN_POINT);
+    for (uint32_t left = 4; left > 0; left--) expect("undo", desk_undo(), VULCEDAR_PASSED);
+    expect("undo of none", desk_undo(), VULCEDAR_NOTHING_TO_UNDO);
+    expect_row("desk 10 as it began", 0, 0, 0, 0);
+    expect_row("desk 20 as it began", 1, 0, 0, 0);
+    /* at a desk alone: a message with the plain plan, a step with the other */
+    expect("a desk hears", vulcedar_hear(plain, sizeof plain, VULCEDAR_START, 0, row, 3), VULCEDAR_PASSED);
+    expect("a step at a desk", vulcedar_desk_step(shared, sizeof shared, VULCEDAR_START, 1, row, 3), result(VULCEDAR_PASSED, 0x10, 0x51));
+    expect("its desk", VULCEDAR_DESK(vulcedar_desk_step(shared, sizeof shared, VULCEDAR_PICK, 1, row, 3)), 0x20);
+}
+
+/* Numbers that are no desk in use, in steps and in entries. */
+static void unused_desks(void)
+{
+    static const uint32_t others[] = { 0, 1, 2, 0x0f, 0x11, 0x1f, 0x21, 0x9f, 0xa0, 0xfe, 0x100, 0x110, 0x120, 0x1ff, 0x80000010u, 0xffffffffu };
+    memset(&office, 0, sizeof office);
+    expect("start", desk_keep(VULCEDAR_START, 0, VULCEDAR_HAPPENS), result(VULCEDAR_PASSED, 0x20, 0x01));
+    for (size_t i = 0; i < sizeof others / sizeof others[0]; i++) {
+        expect("message to no desk", vulcedar_desk_simulate(shared, sizeof shared, VULCEDAR_START, 0, others[i], office.state[0], sizeof office.state), VULCEDAR_NOT_IN_PLAN);
+        expect("kept message to no desk", desk_keep(VULCEDAR_START, 0, others[i]), VULCEDAR_NOT_IN_PLAN);
+        if (others[i] > 0xff) continue;
+        memset(office.entries, byte_of(others[i]), sizeof office.entries);
+        office.entries[0].code = VULCEDAR_START;
+        office.entries[0].node = 0;
+        expect("undo of a message to no desk", desk_undo(), VULCEDAR_NOT_IN_PLAN);
+        expect("undo of it with points", desk_undo_to_points(), VULCEDAR_NOT_IN_PLAN);
+    }
+    expect("one step as before", office.count == 1, 1);
+    expect_row("and its row", 1, 1, 0, 0);
+}
+
+/* Every length of a plan with desks, of a row and of a state; and 22 behind 6, before 7. */
+static void desk_lengths(void)
+{
+    uint8_t plan[3 * VULCEDAR_NODES_MOST + 3], bytes[16], marks[16], classes[16];
+    static const uint8_t table[] = VULCEDAR_COMMON_TABLE;
+    static const uint8_t early[][6] = {
+        { 0, VULCEDAR_NO_PARENT, 0xa0, VULCEDAR_TASK, 0, 0 }, { VULCEDAR_SERIAL, 0, 0xa0, VULCEDAR_TASK, 0, 0 },
+        { VULCEDAR_TASK, VULCEDAR_NO_PARENT, 0xa0, VULCEDAR_TASK, 0, 0 }, { VULCEDAR_CONDITIONAL, VULCEDAR_NO_PARENT, 0xa0, VULCEDAR_TASK, 0, 0 },
+    };
+    static const uint8_t above[] = { VULCEDAR_SERIAL, VULCEDAR_NO_PARENT, 0, VULCEDAR_TASK, 0, 0xa0 };
+    size_t length;
+    for (length = 0; length < sizeof plan; length += 3) { /* a serial of serials of tasks */
+        size_t node = length / 3;
+        plan[length] = node == 0 || node % 20 == 1 ? VULCEDAR_SERIAL : VULCEDAR_TASK;
+        plan[length + 1] = byte_of(node == 0 ? VULCEDAR_NO_PARENT : node % 20 == 1 ? 0 : (node - 1) / 20 * 20 + 1);
+        plan[length + 2] = byte_of(node % 7);
+    }
+    for (length = 0; length <= sizeof plan; length++) {
+        uint32_t number = vulcedar_desk_check(plan, length);
+        expect("a plan's length", number == VULCEDAR_BAD_LENGTH, length == 0 || length % 3 != 0 || length > 480);
+    }
+    expect("480 bytes", vulcedar_desk_check(plan, 480), VULCEDAR_PASSED);
+    plan[479] = 0xa0;
+    expect("480 bytes with a desk that is none", vulcedar_desk_check(plan, 480), VULCEDAR_BAD_DESK);
+    for (length = 0; length <= sizeof bytes; length++) {
+        memset(bytes, 0, sizeof bytes);
+        expect("a row's length", vulcedar_desk_step(shared, sizeof shared, VULCEDAR_START, 0, bytes, length) == VULCEDAR_BAD_BUFFER, length != 3);
+        memset(bytes, 0, sizeof bytes);
+        expect("a state's length", vulcedar_desk_simulate(shared, sizeof shared, VULCEDAR_START, 0, VULCEDAR_HAPPENS, bytes, length) == VULCEDAR_BAD_BUFFER, length != 6);
+        expect("a record's state", vulcedar_desk_record(shared, sizeof shared, bytes, length, marks, 3, classes, 3) == VULCEDAR_BAD_BUFFER, length != 6);
+        expect("marks", vulcedar_desk_record(shared, sizeof shared, bytes, 6, marks, length, classes, 3) == VULCEDAR_BAD_BUFFER, length != 3);
+        expect("classes", vulcedar_desk_record_by(shared, sizeof shared, table, sizeof table, bytes, 6, marks, 3, classes, length) == VULCEDAR_BAD_BUFFER, length != 3);
+        expect("22 before a row's length", vulcedar_desk_step(above, sizeof above, VULCEDAR_START, 0, bytes, length), VULCEDAR_BAD_DESK);
+        expect("22 before a state's length", vulcedar_desk_simulate(above, sizeof above, 0, 300, 300, bytes, length), VULCEDAR_BAD_DESK);
+        expect("22 before a record's", vulcedar_desk_record(above, sizeof above, bytes, length, marks, 1, classes, 1), VULCEDAR_BAD_DESK);
+    }
+    expect("21 before 22", vulcedar_desk_record_by(above, sizeof above, table, 11, bytes, 4, marks, 2, classes, 2), VULCEDAR_BAD_TABLE);
+    for (uint32_t i = 0; i < sizeof early / sizeof early[0]; i++) expect("2 to 5 before 22", vulcedar_desk_check(early[i], sizeof early[i]), VULCEDAR_BAD_KIND + i);
+}
+
 /* Task 1, then task 2: site 2 is told that 1 committed, which it did not, and the block commits without it. */
 static void false_message(void)
 {
@@ -399,6 +569,7 @@ int main(void)
 {
     expect("the version", vulcedar_version(), VULCEDAR_VERSION);
     nulls();
+    desk_nulls();
     parts();
     kept();
     taken_back();
@@ -409,7 +580,10 @@ int main(void)
     too_many();
     foreign_way();
     tables();
+    desks();
+    unused_desks();
+    desk_lengths();
     false_message();
-    if (wrong == 0) printf("header: nulls, parts of results, a journal, its points, tables, the version and a false message are as it says\n");
+    if (wrong == 0) printf("header: nulls, parts of results, a journal, its points, tables, desks, the version and a false message are as it says\n");
     return wrong == 0 ? 0 : 1;
 }

@@ -1,8 +1,8 @@
 /*
  * How much stack a call takes: every exported function is called on a painted stack of its own, for plans of 160 nodes as
- * deep and as wide as they may be, and for every event of them, refused and passed. Prints the deepest of each function;
- * fails if one is above what the header says. Symbols must be bound beforehand (-Wl,-z,now): the loader's own stack is not
- * the library's.
+ * deep and as wide as they may be, and for every event of them, refused and passed; with desks, three nodes share one. Prints
+ * the deepest of each function; fails if one is above what the header says. Symbols must be bound beforehand (-Wl,-z,now): the
+ * loader's own stack is not the library's.
  */
 #define _GNU_SOURCE
 #include <stdio.h>
@@ -16,9 +16,11 @@ enum { NODES = VULCEDAR_NODES_MOST };
 #define PAINT 0xa5a5a5a5a5a5a5a5u
 
 static uint8_t plan[2 * NODES], row[NODES], marks[NODES], notes[NODES], classes[NODES], answers[NODES], out[2 * NODES];
+static uint8_t with_desks[3 * NODES], desk_state[NODES * NODES]; /* the same plan with desks */
+static size_t desk_len; /* of that state */
 static uint8_t state[NODES * NODES], buf[VULCEDAR_GUARD_MOST], text[VULCEDAR_TEXT_MOST], printed[VULCEDAR_PRINTED_MOST];
 static size_t text_len, fresh, one;
-static vulcedar_entry kept[1], event[1], message[1], way[8];
+static vulcedar_entry kept[1], event[1], message[1], way[8], desk_message[1], desk_way[8];
 static size_t eight;
 static vulcedar_points points;
 static const uint8_t zeros[VULCEDAR_NAME_LENGTH]; /* the first point's name */
@@ -49,6 +51,18 @@ static void record_by(void) { answer = vulcedar_record_by(plan, 2 * nodes, table
 static void central(void) { answer = vulcedar_central(plan, 2 * nodes, code, node, marks, nodes, notes, nodes); }
 static void check_table(void) { answer = vulcedar_check_table(table, sizeof table); }
 static void pass_record(void) { answer = vulcedar_pass_record(plan, 2 * nodes, table, sizeof table, answers, nodes, marks, nodes, classes, nodes); }
+static void desk_check(void) { answer = vulcedar_desk_check(with_desks, 3 * nodes); }
+static void desk_step(void) { answer = vulcedar_desk_step(with_desks, 3 * nodes, code, node, row, nodes); }
+static void desk_happen(void) { answer = vulcedar_desk_simulate(with_desks, 3 * nodes, code, node, VULCEDAR_HAPPENS, desk_state, desk_len); }
+static void desk_tell(void) { answer = vulcedar_desk_simulate(with_desks, 3 * nodes, code, node, with_desks[2], desk_state, desk_len); }
+static void desk_keep_event(void) { answer = vulcedar_desk_keep(with_desks, 3 * nodes, code, node, VULCEDAR_HAPPENS, desk_state, desk_len, kept, 1, &fresh); }
+static void desk_keep_message(void) { answer = vulcedar_desk_keep(with_desks, 3 * nodes, code, node, with_desks[2], desk_state, desk_len, kept, 1, &fresh); }
+static void desk_undo_event(void) { answer = vulcedar_desk_undo(with_desks, 3 * nodes, desk_state, desk_len, event, 1, &one); }
+static void desk_undo_message(void) { answer = vulcedar_desk_undo(with_desks, 3 * nodes, desk_state, desk_len, desk_message, 1, &one); }
+static void desk_point_undo(void) { answer = vulcedar_desk_point_undo(with_desks, 3 * nodes, desk_state, desk_len, desk_way, 8, &eight, points.names, sizeof points.names, points.places, VULCEDAR_POINTS_MOST); }
+static void desk_point_back(void) { answer = vulcedar_desk_point_back(with_desks, 3 * nodes, zeros, sizeof zeros, desk_state, desk_len, desk_way, 8, &eight, points.names, sizeof points.names, points.places, VULCEDAR_POINTS_MOST); }
+static void desk_record(void) { answer = vulcedar_desk_record(with_desks, 3 * nodes, desk_state, desk_len, marks, nodes, classes, nodes); }
+static void desk_record_by(void) { answer = vulcedar_desk_record_by(with_desks, 3 * nodes, table, sizeof table, desk_state, desk_len, marks, nodes, classes, nodes); }
 static void version(void) { answer = vulcedar_version(); }
 static void rehearse(void) { answer = vulcedar_rehearse(text, text_len, printed, sizeof printed); }
 
@@ -61,6 +75,11 @@ static struct call { const char *name; void (*run)(void); int events; size_t mos
     { "point_name", point_name, 0, 0 }, { "point_undo", point_undo, 1, 0 }, { "point_back", point_back, 1, 0 },
     { "record", record, 0, 0 }, { "record_by", record_by, 0, 0 }, { "central", central, 1, 0 },
     { "check_table", check_table, 0, 0 }, { "pass_record", pass_record, 0, 0 }, { "version", version, 0, 0 }, { "rehearse", rehearse, 0, 0 },
+    { "desk_check", desk_check, 0, 0 }, { "desk_step", desk_step, 1, 0 }, { "desk_simulate (event)", desk_happen, 1, 0 }, { "desk_simulate (message)", desk_tell, 1, 0 },
+    { "desk_keep (event)", desk_keep_event, 1, 0 }, { "desk_keep (message)", desk_keep_message, 1, 0 },
+    { "desk_undo (event)", desk_undo_event, 1, 0 }, { "desk_undo (message)", desk_undo_message, 1, 0 },
+    { "desk_point_undo", desk_point_undo, 1, 0 }, { "desk_point_back", desk_point_back, 1, 0 },
+    { "desk_record", desk_record, 0, 0 }, { "desk_record_by", desk_record_by, 0, 0 },
 };
 enum { CALLS = sizeof calls / sizeof calls[0] };
 
@@ -93,7 +112,9 @@ static void lend(enum heard heard)
     int b = heard == NOTHING ? 0 : 0xff;
     memset(row, b, nodes);
     memset(state, b, nodes * nodes);
+    memset(desk_state, b, desk_len);
     if (heard == OTHERS) row[node] = state[node * nodes + node] = 1u << (VULCEDAR_START - 1);
+    if (heard == OTHERS) for (size_t at = node; at < desk_len; at += nodes) desk_state[at] = row[node];
     memset(marks, heard == NOTHING ? 0 : VULCEDAR_COMMITTED, nodes);
     memset(notes, 0, nodes);
     memset(answers, heard == NOTHING ? 1 : 2, nodes);
@@ -101,8 +122,9 @@ static void lend(enum heard heard)
     one = 1;
     event[0] = (vulcedar_entry){ (uint8_t)code, (uint8_t)node, VULCEDAR_HAPPENS, 1 };
     message[0] = (vulcedar_entry){ (uint8_t)code, (uint8_t)node, 0, 1 };
+    desk_message[0] = (vulcedar_entry){ (uint8_t)code, (uint8_t)node, with_desks[2], 1 };
     eight = 8;
-    for (size_t i = 0; i < 8; i++) way[i] = i % 2 ? event[0] : message[0];
+    for (size_t i = 0; i < 8; i++) way[i] = i % 2 ? event[0] : message[0], desk_way[i] = i % 2 ? event[0] : desk_message[0];
     for (size_t slot = 0; slot < VULCEDAR_POINTS_MOST; slot++) { /* all in use, the first at the beginning of the way */
         memset(points.names + slot * VULCEDAR_NAME_LENGTH, (int)slot, VULCEDAR_NAME_LENGTH);
         points.places[slot] = 1 + slot % 9;
@@ -159,10 +181,25 @@ static void write_text(void)
     text_len = (size_t)(at - (char *)text);
 }
 
+/* The plan with desks, each of which three nodes share; their numbers are not in order. */
+static void seat(void)
+{
+    uint32_t desks = (nodes + 2) / 3;
+    for (uint32_t v = 0; v < nodes; v++) {
+        with_desks[3 * v] = plan[2 * v];
+        with_desks[3 * v + 1] = plan[2 * v + 1];
+        with_desks[3 * v + 2] = (uint8_t)((v % desks * 37 + 11) % 160);
+    }
+    desk_len = desks * nodes;
+}
+
 static void measure_plan(size_t none)
 {
     uint32_t r = vulcedar_check(plan, 2 * nodes);
     if (r != VULCEDAR_PASSED) printf("stack: a plan is refused with %u\n", r), exit(1);
+    seat();
+    r = vulcedar_desk_record(with_desks, 3 * nodes, desk_state, desk_len, marks, nodes, classes, nodes);
+    if (r != VULCEDAR_PASSED) printf("stack: a plan with desks is refused with %u\n", r), exit(1);
     write_text();
     r = vulcedar_rehearse(text, text_len, printed, sizeof printed);
     if (VULCEDAR_NUMBER(r) != VULCEDAR_PASSED) printf("stack: a text is refused with %u\n", VULCEDAR_NUMBER(r)), exit(1);
@@ -184,7 +221,7 @@ int main(void)
         wide(kind), measure_plan(none);
     }
     for (size_t c = 0; c < CALLS; c++) {
-        printf("%-22s %6zu bytes of %zu\n", calls[c].name, calls[c].most, granted(calls[c].run));
+        printf("%-24s %6zu bytes of %zu\n", calls[c].name, calls[c].most, granted(calls[c].run));
         over += calls[c].most > granted(calls[c].run);
     }
     printf("stack: %d calls take more than the header says\n", over);

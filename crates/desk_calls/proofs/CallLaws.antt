@@ -1,6 +1,6 @@
 -- The calls behind the preparation: refused by the check, refused for a length, and done on the plain plan with its tables. Assumes nothing.
 use mathlib.Core.Path.{_≡_, refl, sym, _∙_, ap, subst}
-use mathlib.Core.Bool.{Bool, true, false, cond, not, _&&_}
+use mathlib.Core.Bool.{Bool, true, false, not, _&&_}
 use mathlib.Core.List.{List}
 use mathlib.Core.Logic.{_⊎_, inl, inr}
 use Prim.Native.Nat.{ℕ, _*_, _-_, _≤_, _<_}
@@ -10,7 +10,7 @@ use borrow.Author.Tests.{ne-eqb, eq-eqb, eqb-true, eqb-false, ltb-true, ltb-fals
 use lib.Dec.{eqb, ltb, leb}
 use lib.ListN.{length, getD, take, set, length-take}
 use lib.Seq.{getD-take, set-out}
-use Rattle.lists.specs.Seq.{table, upFrom}
+use Rattle.lists.specs.Seq.{upFrom}
 use Rattle.lists.proofs.Logic.{cases, decided, no-bool, and-left, and-right, and-join}
 use Rattle.lists.proofs.Keep.{keep-short}
 use Rattle.lists.proofs.Table.{table-length, table-at, up-length}
@@ -36,15 +36,15 @@ use Rattle.layout.proofs.StepLaws.{simulate-event, simulate-message, happen-ref
 use Rattle.simulation.specs.Run.{recordNumber, recordByOn}
 use Rattle.simulation.proofs.RecordLaws.{record-refused, record-done}
 use Rattle.journal.specs.declared.Entry.{Entry}
-use Rattle.journal.specs.Journal.{Kept, kept, stepOn, keepFits, keepOf, undone, undoFits, undoNumber, undoOf}
+use Rattle.journal.specs.Journal.{Kept, kept, stepOn, keepFits, keepOf, undoFits, undoNumber, undoOf}
 use Rattle.journal.proofs.UndoLaws.{keep-room}
 use Rattle.keeping.specs.Keeping.{Keeps, KeptBy, Undoes}
 use Rattle.points.specs.Points.{points, pointsFit}
 use Rattle.rewind.specs.Return.{Returned, returned, pointUndoFits, pointUndoOf, backFits, pointBackOf}
-use Rattle.desks.specs.Desk.{nodes, deskOf, plain, deskCheck, DeskAccepted, used, usedBelow, deskRows, deskRow, deskLayout}
+use Rattle.desks.specs.Desk.{nodes, deskOf, plain, deskCheck, DeskAccepted, used, usedBelow, deskRow, deskLayout}
 use Rattle.desks.specs.Calls.{ownDesk, atDesk, stepAtDesk, keptAtDesk, deskStepOf, deskSimulateOf, deskKeepOf, deskUndoOf, deskPointUndoOf, deskPointBackOf, deskRecordByInto}
-use Rattle.desks.proofs.DeskLaws.{same-nodes, accepted-checks, desk-rows}
-use Rattle.desks.proofs.CallLaws.{at-number}
+use Rattle.desks.proofs.DeskLaws.{same-nodes, desk-rows}
+use Rattle.desks.proofs.CallLaws.{at-number, on-plain, desk-step, keep-plain, undo-plain, point-undo-plain, point-back-plain, record-plain}
 use Rattle.desks.proofs.AlikeLaws.{Alike, step-alike, keep-alike, undo-alike, point-undo-alike, point-back-alike, marks-alike}
 use Rattle.desk_calls.specs.Tables.{rowByte, Prepared, DeskKeeps, DeskUndoes}
 use Rattle.desk_calls.proofs.PrepareLaws.{nodes-few, front-is}
@@ -102,8 +102,7 @@ module _ (v w : Verdict) (d : ℕ) (is : w ≡ atDesk d v) where
 -- A DESK'S STEP behind the check: n is the code's number of nodes
 module _ (p two : List ℕ) (ok : DeskAccepted p) (front : take (2 * nodes p) two ≡ plain p) (n : ℕ) (e : n ≡ nodes p) (code node : ℕ) (row : List ℕ) where
   step-at : deskStepOf p code node row ≡ stepAt (plain p) (ownDesk p code node) code node row
-  unfolding deskStepOf
-  step-at = rw (accepted-checks p ok)
+  step-at = desk-step p ok code node row
 
   row-fits : eqb (length row) (size (plain p)) ≡ eqb (length row) n
   row-fits = rw (same-nodes p, e)
@@ -142,9 +141,6 @@ module _ (p : List ℕ) (rows : ℕ) (two home row : List ℕ) (s : Prepared p r
 
   abbrev lay : Layout
   lay = layoutBy rows home
-
-  zero : deskCheck p ≡ 0
-  zero = accepted-checks p ok
 
   pub plan-is : take (2 * n) two ≡ plain p
   plan-is = front-is p two (s .front) n e
@@ -252,42 +248,41 @@ module _ (p : List ℕ) (rows : ℕ) (two home row : List ℕ) (s : Prepared p r
   seven b w = rw (check-exact (plain p) .1 (ok .accepted), w)
 
   pub simulate-wrong : (st : List ℕ) → (length st ≡ rows * n → ⊥) → (code node desk : ℕ) → deskSimulateOf p code node desk st ≡ simulated st (Refused (Invalid 7))
-  unfolding deskSimulateOf stepOn atDesk
+  unfolding stepOn atDesk
   simulate-wrong st w code node desk =
       let f = seven (stateFits (plain p) (deskLayout p) st) (fits-is st ∙ ne-eqb (length st) (rows * n) w) in
-      rw (zero, unfit-refused (plain p) (deskLayout p) st (stepBy (deskRow p) code node desk) 7 (sym f) (λ z. absurd (omega arith)))
+      on-plain p ok code node desk st ∙ rw (unfit-refused (plain p) (deskLayout p) st (stepBy (deskRow p) code node desk) 7 (sym f) (λ z. absurd (omega arith)))
 
   pub keep-wrong : (st : List ℕ) (len k : ℕ) → (eqb (length st) (rows * n) && ltb k len) ≡ false → (code node desk : ℕ) (x : Entry) →
       DeskKeeps p st len k code node desk (Refused (Invalid 7)) len x st k
-  unfolding deskKeepOf keepOf keepFits atDesk
+  unfolding keepOf keepFits atDesk
   keep-wrong st len k w code node desk x es long =
       let f = seven (stateFits (plain p) (deskLayout p) st && ltb k (length es)) (rw (fits-is st, long) w) in
-      rw (zero, f, set-out es len x (omega arith))
+      keep-plain p ok st es k code node desk ∙ rw (f, set-out es len x (omega arith))
 
   pub undo-wrong : (st : List ℕ) (len k : ℕ) → (eqb (length st) (rows * n) && leb k len) ≡ false → (x : Entry) → DeskUndoes p st len k x 7 st k
-  unfolding deskUndoOf undoOf undoNumber undoFits
+  unfolding undoOf undoNumber undoFits
   undo-wrong st len k w x es long last =
       let f = seven (stateFits (plain p) (deskLayout p) st && leb k (length es)) (rw (fits-is st, long) w) in
-      rw (zero, f)
+      undo-plain p ok st es k ∙ rw f
 
   module _ (st : List ℕ) (es : List Entry) (k len : ℕ) (long : length es ≡ len) (names places : List ℕ) (b : Bool) (fine : b ≡ pointsFit names places k) where
     pub point-undo-wrong : (eqb (length st) (rows * n) && leb k len && b) ≡ false → deskPointUndoOf p st es k names places ≡ returned 7 st k (points names places)
-    unfolding deskPointUndoOf pointUndoOf pointUndoFits
+    unfolding pointUndoOf pointUndoFits
     point-undo-wrong w =
         let f = seven (stateFits (plain p) (deskLayout p) st && leb k (length es) && pointsFit names places k) (rw (fits-is st, long, ← fine) w) in
-        rw (zero, f)
+        point-undo-plain p ok st es k names places ∙ rw f
 
     pub point-back-wrong : (name : List ℕ) → (eqb (length name) 8 && eqb (length st) (rows * n) && leb k len && b) ≡ false →
         deskPointBackOf p name st es k names places ≡ returned 7 st k (points names places)
-    unfolding deskPointBackOf pointBackOf backFits
+    unfolding pointBackOf backFits
     point-back-wrong name w =
         let f = seven (eqb (length name) 8 && stateFits (plain p) (deskLayout p) st && leb k (length es) && pointsFit names places k) (rw (fits-is st, long, ← fine) w) in
-        rw (zero, f)
+        point-back-plain p ok name st es k names places ∙ rw f
 
   module _ (tab : List ℕ) (right : tableNumber tab ≡ 0) (st m c : List ℕ) where
     record-at : deskRecordByInto p tab st m c ≡ recordByOn (plain p) (deskLayout p) tab st m c
-    unfolding deskRecordByInto
-    record-at = rw (right, zero)
+    record-at = record-plain p ok tab right st m c
 
     record-fits : (b : Bool) → b ≡ (eqb (length st) (rows * n) && eqb (length m) n && eqb (length c) n) → recordNumber (plain p) (deskLayout p) st m c ≡ fitNumber (plain p) b
     unfolding recordNumber
@@ -323,35 +318,32 @@ module _ (p : List ℕ) (rows : ℕ) (two home row : List ℕ) (s : Prepared p r
 
     pub simulate-done : (st′ : List ℕ) (v : Verdict) → simulate (take (2 * n) two) lay st (stepBy (via row) code node desk) ≡ simulated st′ v →
         deskSimulateOf p code node desk st ≡ simulated st′ (atDesk d v)
-    unfolding deskSimulateOf stepOn
+    unfolding stepOn
     simulate-done st′ v h =
         let done : simulate (plain p) lay st (stepBy (via row) code node desk) ≡ simulated st′ v = ap (λ (q : List ℕ). simulate q lay st (stepBy (via row) code node desk)) (sym plan-is) ∙ h in
         let there = sym (step-alike (plain p) lay (via row) (deskLayout p) (deskRow p) alike st code node desk) ∙ done in
-        rw zero (ap (stepAtDesk (ownDesk p code node)) there ∙ named-own (simulated st′ v) done)
+        on-plain p ok code node desk st ∙ ap (stepAtDesk (ownDesk p code node)) there ∙ named-own (simulated st′ v) done
 
     pub keep-done : (len k : ℕ) → k < len → (v : Verdict) (at : ℕ) (x : Entry) (st′ : List ℕ) (k′ : ℕ) → Keeps (take (2 * n) two) lay (via row) st len k code node desk v at x st′ k′ →
         DeskKeeps p st len k code node desk (atDesk d v) at x st′ k′
-    unfolding deskKeepOf stepOn
+    unfolding stepOn
     keep-done len k room v at x st′ k′ h es l =
         let on : keepOf (plain p) lay (via row) st es k code node desk ≡ kept (simulated st′ v) (set es at x) k′ =
         ap (λ (q : List ℕ). keepOf q lay (via row) st es k code node desk) (sym plan-is) ∙ h es l in
         let there = sym (keep-alike (plain p) lay (via row) (deskLayout p) (deskRow p) alike st es k code node desk) ∙ on in
         let done : simulate (plain p) lay st (stepBy (via row) code node desk) ≡ simulated st′ v =
         sym (keep-room (plain p) lay (via row) st es k code node desk (rw l room)) ∙ ap (λ (a : Kept). a .step) on in
-        rw zero (ap (keptAtDesk (ownDesk p code node)) there ∙ ap (λ (y : Simulated). kept y (set es at x) k′) (named-own (simulated st′ v) done))
+        keep-plain p ok st es k code node desk ∙ ap (keptAtDesk (ownDesk p code node)) there ∙ ap (λ (y : Simulated). kept y (set es at x) k′) (named-own (simulated st′ v) done)
 
   pub undo-done : (st : List ℕ) (len k : ℕ) (x : Entry) (r : ℕ) (st′ : List ℕ) (k′ : ℕ) → Undoes (take (2 * n) two) lay (via row) st len k x r st′ k′ → DeskUndoes p st len k x r st′ k′
-  unfolding deskUndoOf
   undo-done st len k x r st′ k′ h es l last =
-      rw zero (sym (undo-alike (plain p) lay (via row) (deskLayout p) (deskRow p) alike st es k) ∙ ap (λ (q : List ℕ). undoOf q lay (via row) st es k) (sym plan-is) ∙ h es l last)
+      undo-plain p ok st es k ∙ sym (undo-alike (plain p) lay (via row) (deskLayout p) (deskRow p) alike st es k) ∙ ap (λ (q : List ℕ). undoOf q lay (via row) st es k) (sym plan-is) ∙ h es l last
 
   module _ (st : List ℕ) (es : List Entry) (k : ℕ) (names places : List ℕ) (x : Returned) where
     pub point-undo-done : pointUndoOf (take (2 * n) two) lay (via row) st es k names places ≡ x → deskPointUndoOf p st es k names places ≡ x
-    unfolding deskPointUndoOf
-    point-undo-done h = rw zero (sym (point-undo-alike (plain p) lay (via row) (deskLayout p) (deskRow p) alike st es k names places)
+    point-undo-done h = point-undo-plain p ok st es k names places ∙ (sym (point-undo-alike (plain p) lay (via row) (deskLayout p) (deskRow p) alike st es k names places)
         ∙ ap (λ (q : List ℕ). pointUndoOf q lay (via row) st es k names places) (sym plan-is) ∙ h)
 
     pub point-back-done : (name : List ℕ) → pointBackOf (take (2 * n) two) lay (via row) name st es k names places ≡ x → deskPointBackOf p name st es k names places ≡ x
-    unfolding deskPointBackOf
-    point-back-done name h = rw zero (sym (point-back-alike (plain p) lay (via row) (deskLayout p) (deskRow p) alike name st es k names places)
+    point-back-done name h = point-back-plain p ok name st es k names places ∙ (sym (point-back-alike (plain p) lay (via row) (deskLayout p) (deskRow p) alike name st es k names places)
         ∙ ap (λ (q : List ℕ). pointBackOf q lay (via row) name st es k names places) (sym plan-is) ∙ h)

@@ -5,17 +5,15 @@ use mathlib.Core.List.{List}
 use Prim.Native.Nat.{ℕ, zero, suc, _+_, _-_, _*_, _%_, _≤_, _<_}
 use native.Mathlib.Nat.{le-antisymm}
 use native.Mathlib.Omega.{arith}
-use borrow.Author.Tests.{eqb-true, ltb-true, ltb-false, leb-true, ne-eqb, le-leb, lt-leb, not-true, not-false}
+use borrow.Author.Tests.{ltb-false, leb-true, ne-eqb, le-leb, lt-leb, not-true, not-false}
 use lib.Dec.{eqb, ltb, leb}
 use lib.ListN.{length, getD, take, length-take}
-use lib.Seq.{getD-take}
-use Rattle.lists.specs.Seq.{keep, upFrom, table}
-use Rattle.lists.proofs.Logic.{cases, decided, clash, no-bool, and-right}
+use Rattle.lists.specs.Seq.{upFrom, table}
+use Rattle.lists.proofs.Logic.{cases, decided, no-bool, and-right}
 use Rattle.lists.proofs.Keep.{keep-same}
 use Rattle.lists.proofs.Members.{up-in}
 use Rattle.lists.proofs.Filling.{Filling}
 use Rattle.lists.proofs.Table.{table-length, table-at, table-by}
-use Rattle.plan.specs.Plan.{size}
 use Rattle.plan.specs.Check.{checkNumber}
 use Rattle.desks.specs.Desk.{nodes, deskOf, plainByte, plain, threes, desksLow, deskCheck, DeskAccepted, used, usedBelow, deskRows}
 use Rattle.desks.proofs.DeskLaws.{same-nodes}
@@ -35,7 +33,7 @@ pub threes-few : (p : List ℕ) → threes p ≡ true → nodes p ≤ 160
 unfolding threes nodes
 threes-few p h = let l = leb-true (length p) 480 (and-right (eqb (length p % 3) 0 && ltb 0 (length p)) _ h) in omega arith
 
-pub plain-length : (p : List ℕ) → length (plain p) ≡ 2 * nodes p
+plain-length : (p : List ℕ) → length (plain p) ≡ 2 * nodes p
 unfolding plain
 plain-length p = table-length (plainByte p) (2 * nodes p)
 
@@ -70,7 +68,7 @@ module _ (p : List ℕ) where
       unfolding deskCheck
       check-0 h = rw (long, ← told, z, low, le-leb top 160 h)
 
-pub desk-low : (p : List ℕ) → DeskAccepted p → (v : ℕ) → v < nodes p → deskOf p v < 160
+desk-low : (p : List ℕ) → DeskAccepted p → (v : ℕ) → v < nodes p → deskOf p v < 160
 desk-low p ok v l = let h = ok .low v l in omega arith
 
 pub nodes-few : (p : List ℕ) → DeskAccepted p → nodes p ≤ 160

@@ -1,23 +1,20 @@
 // The calls on plans with desks: each checks its plan, splits it into its plain plan and the two tables of its layout, and hands these to the functions
 // for any layout of rows. What the calls mean is the crate desks's. No public function has a `requires`.
 ghost use mathlib.Core.Path.{_≡_};
-ghost use mathlib.Core.Bool.{Bool, true, _&&_, cond};
-ghost use mathlib.Core.List.{List};
+ghost use mathlib.Core.Bool.{true, _&&_, cond};
 ghost use Prim.Native.Nat.{ℕ, _+_, _*_, _-_, _≤_, _<_};
 ghost use lib.Dec.{eqb, leb};
-ghost use lib.ListN.{length, take, getD, set, replicate};
+ghost use lib.ListN.{length, take, replicate};
 ghost use Rattle.lists.specs.Seq.{table};
-ghost use Rattle.plan.specs.Plan.{size};
 ghost use Rattle.event.specs.Event.{known};
 ghost use Rattle.retention.specs.Record.{recorded};
 ghost use Rattle.site.specs.Step.{stepped};
 ghost use Rattle.job.specs.Simulation.{simulated};
-ghost use Rattle.journal.specs.Journal.{noEntry, kept, undone};
 ghost use Rattle.points.specs.Points.{points};
 ghost use Rattle.rewind.specs.Arrays.{entriesOf};
 ghost use Rattle.rewind.specs.Return.{returned};
 ghost use Rattle.desks.specs.Desk.{nodes, deskOf, plain, threes, desksLow, deskCheck, DeskAccepted, used};
-ghost use Rattle.desks.specs.Calls.{ownDesk, atDesk, deskStepOf, deskSimulateOf, deskKeepOf, deskUndoOf, deskPointUndoOf, deskPointBackOf, deskRecordByInto, deskRecordInto};
+ghost use Rattle.desks.specs.Calls.{ownDesk, atDesk, deskStepOf, deskSimulateOf, deskPointUndoOf, deskPointBackOf, deskRecordByInto, deskRecordInto};
 ghost use Rattle.desk_calls.specs.Tables.{markedBelow, numberedByte, markOf, rowByte, Prepared, DeskKeeps, DeskUndoes};
 use journal::Entry;
 

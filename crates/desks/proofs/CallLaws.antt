@@ -25,14 +25,18 @@ use Rattle.site.specs.declared.Refusal.the-variants.{Invalid, Barred, Unmet, Un
 use Rattle.site.specs.declared.Verdict.{Verdict}
 use Rattle.site.specs.declared.Verdict.the-variants.{Passed, Heard, Refused}
 use Rattle.site.specs.Verdict.{reportOf, verdictNumber}
-use Rattle.site.specs.Step.{Stepped, stepped, stepInvalid, decide, stepAt, stepOf}
+use Rattle.site.specs.Step.{stepped, stepInvalid, decide, stepAt, stepOf}
 use Rattle.site.proofs.StepLaws.{number-any-site}
 use Rattle.runs.proofs.Said.{same-event}
 use Rattle.job.specs.Simulation.{rowOf, Step, event, message, stepBy, simulated, stateFits, rowStepped, happen, tell, simulate, stepNumber, passedOf, heardOf, passedFrom, heardFrom, zeros, passed, heardAt}
 use Rattle.job.proofs.StateLaws.{with-same}
-use Rattle.journal.specs.Journal.{stepOn}
+use Rattle.simulation.specs.Run.{recordByOn}
+use Rattle.retention.specs.Record.{tableNumber}
+use Rattle.journal.specs.declared.Entry.{Entry}
+use Rattle.journal.specs.Journal.{stepOn, keepOf, undoOf}
+use Rattle.rewind.specs.Return.{pointUndoOf, pointBackOf}
 use Rattle.desks.specs.Desk.{nodes, deskOf, plain, DeskAccepted, deskRows, deskRow, deskLayout}
-use Rattle.desks.specs.Calls.{ownDesk, atDesk, stepAtDesk, deskStepOf, deskSimulateOf}
+use Rattle.desks.specs.Calls.{ownDesk, atDesk, stepAtDesk, keptAtDesk, deskStepOf, deskSimulateOf, deskKeepOf, deskUndoOf, deskPointUndoOf, deskPointBackOf, deskRecordByInto}
 use Rattle.desks.proofs.DeskLaws.{same-nodes, accepted-checks, desk-rows}
 
 -- the answer's desk is not in its number
@@ -79,11 +83,11 @@ at-once p lay ts e h = once-from p lay (zeros p lay) ts e h
 
 module _ (p : List ℕ) (ok : DeskAccepted p) where
   -- N8: a call is the step on the plain plan
-  on-plain : (code node desk : ℕ) (st : List ℕ) → deskSimulateOf p code node desk st ≡ stepAtDesk (ownDesk p code node) (stepOn (plain p) (deskLayout p) (deskRow p) st code node desk)
+  pub on-plain : (code node desk : ℕ) (st : List ℕ) → deskSimulateOf p code node desk st ≡ stepAtDesk (ownDesk p code node) (stepOn (plain p) (deskLayout p) (deskRow p) st code node desk)
   unfolding deskSimulateOf
   on-plain code node desk st = rw (accepted-checks p ok)
 
-  desk-step : (code node : ℕ) (row : List ℕ) → deskStepOf p code node row ≡ stepAt (plain p) (ownDesk p code node) code node row
+  pub desk-step : (code node : ℕ) (row : List ℕ) → deskStepOf p code node row ≡ stepAt (plain p) (ownDesk p code node) code node row
   unfolding deskStepOf
   desk-step code node row = rw (accepted-checks p ok)
 
@@ -91,14 +95,35 @@ module _ (p : List ℕ) (ok : DeskAccepted p) where
       verdictNumber (deskSimulateOf p code node desk st .verdict) ≡ verdictNumber (stepOn (plain p) (deskLayout p) (deskRow p) st code node desk .verdict)
   call-number code node desk st = rw (on-plain code node desk st) (at-number (ownDesk p code node) _)
 
-  pub call-state : (code node desk : ℕ) (st : List ℕ) → deskSimulateOf p code node desk st .state ≡ stepOn (plain p) (deskLayout p) (deskRow p) st code node desk .state
-  call-state code node desk st = rw (on-plain code node desk st)
+  pub keep-plain : (st : List ℕ) (es : List Entry) (k code node desk : ℕ) →
+      deskKeepOf p st es k code node desk ≡ keptAtDesk (ownDesk p code node) (keepOf (plain p) (deskLayout p) (deskRow p) st es k code node desk)
+  unfolding deskKeepOf
+  keep-plain st es k code node desk = rw (accepted-checks p ok)
+
+  pub undo-plain : (st : List ℕ) (es : List Entry) (k : ℕ) → deskUndoOf p st es k ≡ undoOf (plain p) (deskLayout p) (deskRow p) st es k
+  unfolding deskUndoOf
+  undo-plain st es k = rw (accepted-checks p ok)
+
+  pub point-undo-plain : (st : List ℕ) (es : List Entry) (k : ℕ) (names places : List ℕ) →
+      deskPointUndoOf p st es k names places ≡ pointUndoOf (plain p) (deskLayout p) (deskRow p) st es k names places
+  unfolding deskPointUndoOf
+  point-undo-plain st es k names places = rw (accepted-checks p ok)
+
+  pub point-back-plain : (name st : List ℕ) (es : List Entry) (k : ℕ) (names places : List ℕ) →
+      deskPointBackOf p name st es k names places ≡ pointBackOf (plain p) (deskLayout p) (deskRow p) name st es k names places
+  unfolding deskPointBackOf
+  point-back-plain name st es k names places = rw (accepted-checks p ok)
+
+  pub record-plain : (tab : List ℕ) → tableNumber tab ≡ 0 → (st m c : List ℕ) → deskRecordByInto p tab st m c ≡ recordByOn (plain p) (deskLayout p) tab st m c
+  unfolding deskRecordByInto
+  record-plain tab right st m c = rw (right, accepted-checks p ok)
+
+  pub step-plain : (code node : ℕ) (row : List ℕ) →
+      deskStepOf p code node row ≡ stepped (stepOf (plain p) code node row .row) (atDesk (ownDesk p code node) (stepOf (plain p) code node row .verdict))
+  step-plain code node row = desk-step code node row ∙ sym (at-step (plain p) _ (ownDesk p code node) code node row)
 
   pub step-number : (code node : ℕ) (row : List ℕ) → verdictNumber (deskStepOf p code node row .verdict) ≡ verdictNumber (stepOf (plain p) code node row .verdict)
   step-number code node row = rw (desk-step code node row) (number-any-site (plain p) _ _ code node row)
-
-  pub step-row : (code node : ℕ) (row : List ℕ) → deskStepOf p code node row .row ≡ stepOf (plain p) code node row .row
-  step-row code node row = rw (desk-step code node row) (ap (λ (s : Stepped). s .row) (sym (at-step (plain p) _ (ownDesk p code node) code node row)))
 
   -- N4: the event's site is its desk's row
   pub own-site : (code node : ℕ) → siteOf (plain p) (deskLayout p) (eventOf code node) ≡ deskRow p (ownDesk p code node)

@@ -1,19 +1,21 @@
 -- A plan with desks as a plan of two bytes a node with a layout (rules N1 to N4): the plain plan, the check, and the rows. Assumes nothing.
 use mathlib.Core.Path.{_≡_, refl, _∙_, ap}
-use mathlib.Core.Bool.{true, cond, not}
+use mathlib.Core.Bool.{true, false, cond, not, _&&_}
 use mathlib.Core.List.{List}
+use mathlib.Core.Logic.{_⊎_}
 use Prim.Native.Nat.{ℕ, _+_, _*_, _/_, _%_, _≤_, _<_}
 use native.Mathlib.Omega.{arith}
-use lib.Dec.{eqb, leb}
+use lib.Dec.{eqb, ltb, leb}
 use lib.ListN.{length, getD}
-use borrow.Author.Tests.{eqb-true, eqb-false, eq-eqb, leb-true, lt-ltb, le-leb}
-use Rattle.lists.specs.Seq.{upFrom}
-use Rattle.lists.proofs.Logic.{cases, decided, and-left, and-join, test-passed}
+use borrow.Author.Tests.{eqb-true, eqb-false, eq-eqb, ne-eqb, ltb-true, leb-true, lt-ltb, le-leb, lt-leb}
+use Rattle.lists.specs.Seq.{upFrom, allBelow}
+use Rattle.lists.proofs.Logic.{cases, decided, clash, no-bool, and-left, and-right, and-join, test-passed}
 use Rattle.lists.proofs.Members.{any-at, any-by, in-up, up-in}
-use Rattle.lists.proofs.Below.{below-at, below-by}
+use Rattle.lists.proofs.Below.{below-at, below-by, below-stop}
 use Rattle.lists.proofs.Table.{table-length, table-at}
 use Rattle.plan.specs.Plan.{size, kindByte, parent}
-use Rattle.plan.specs.Check.{checkNumber}
+use Rattle.plan.specs.Check.{lengthOk, checkNumber}
+use Rattle.plan.proofs.CheckLaws.{check-1, length-told}
 use Rattle.plan.proofs.Main.{check-exact}
 use Rattle.event.specs.Site.{Housed}
 use Rattle.journal.specs.Session.{Named}
@@ -42,11 +44,11 @@ unfolding parent
 plain-parent p v l = plain-at p v 1 l (omega arith)
 
 -- THE CHECK
-whole-threes : (p : List ℕ) → threes p ≡ true → length p ≡ 3 * nodes p
+pub whole-threes : (p : List ℕ) → threes p ≡ true → length p ≡ 3 * nodes p
 unfolding threes nodes
 whole-threes p h = let e = eqb-true (length p % 3) 0 (and-left _ _ (and-left _ _ h)) in omega arith
 
-pub threes-whole : (p : List ℕ) → length p ≡ 3 * nodes p → 0 < nodes p → nodes p ≤ 160 → threes p ≡ true
+threes-whole : (p : List ℕ) → length p ≡ 3 * nodes p → 0 < nodes p → nodes p ≤ 160 → threes p ≡ true
 unfolding threes
 threes-whole p e l m =
     let r : length p % 3 ≡ 0 = omega arith in
@@ -66,6 +68,40 @@ check-accepts p h =
       accepted = check-exact (plain p) .0 (b .0);
       low = λ v l. leb-true (deskOf p v) 159 (below-at (λ v. leb (deskOf p v) 159) (nodes p) v (c .0) l);
     }
+
+-- each test in turn
+module _ (p : List ℕ) where
+  pub check-short : threes p ≡ false → deskCheck p ≡ 1
+  unfolding deskCheck
+  check-short h = rw h
+
+  -- a length that is not right: the plain plan's number would be 1 too
+  pub check-length : (length p ≡ 0) ⊎ (480 < length p) ⊎ (length p % 3 ≡ 0 → ⊥) → deskCheck p ≡ 1
+  unfolding threes
+  check-length w = check-short (no-bool (threes p) (λ h.
+      let a = and-left (eqb (length p % 3) 0 && ltb 0 (length p)) (leb (length p) 480) h in
+      let r = eqb-true (length p % 3) 0 (and-left _ _ a) in
+      let l = ltb-true 0 (length p) (and-right (eqb (length p % 3) 0) _ a) in
+      let m = leb-true (length p) 480 (and-right (eqb (length p % 3) 0 && ltb 0 (length p)) _ h) in
+      cases w (λ e. absurd (omega arith)) (λ w. cases w (λ e. absurd (omega arith)) (λ e. absurd (e r)))))
+
+  module _ (whole : length p ≡ 3 * nodes p) where
+    pub check-by-plain : (checkNumber (plain p) ≡ 0 → ⊥) → deskCheck p ≡ checkNumber (plain p)
+    unfolding deskCheck
+    check-by-plain bad = cases (decided (threes p))
+        (λ t. rw (t, ne-eqb (checkNumber (plain p)) 0 bad))
+        (λ t. rw t (plain-1 t))
+      where
+        plain-1 : threes p ≡ false → 1 ≡ checkNumber (plain p)
+        plain-1 t = check-1 (plain p) (no-bool (lengthOk (plain p)) (λ h. let l = length-told (plain p) h in clash (threes p) (threes-whole p whole (rw (same-nodes p) at (l .some)) (rw (same-nodes p) at (l .few))) t))
+
+    pub check-by-desk : checkNumber (plain p) ≡ 0 → (v : ℕ) → v < nodes p → 159 < deskOf p v → deskCheck p ≡ 22
+    unfolding deskCheck desksLow
+    check-by-desk z v l high =
+        let ok = check-exact (plain p) .0 z in
+        let t : threes p ≡ true = threes-whole p whole (rw (same-nodes p) at (ok .some)) (rw (same-nodes p) at (ok .few)) in
+        let w : allBelow (λ u. leb (deskOf p u) 159) (nodes p) ≡ false = below-stop (λ u. leb (deskOf p u) 159) (nodes p) v l (lt-leb (deskOf p v) 159 high) in
+        rw (t, z, w)
 
 pub accepted-checks : (p : List ℕ) → DeskAccepted p → deskCheck p ≡ 0
 unfolding deskCheck desksLow

@@ -6,5 +6,6 @@ pub mod CallLaws
 pub mod OwnLaws
 pub mod PlainLaws
 pub mod OneLaws
+pub mod FormLaws
 pub mod Main
 pub mod Cases

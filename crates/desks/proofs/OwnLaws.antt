@@ -8,19 +8,18 @@ use Prim.Native.Nat.{ℕ, _+_, _*_, _/_, _%_, _-_, _≤_, _<_}
 use native.Mathlib.Omega.{arith}
 use lib.Dec.{eqb, ltb}
 use lib.ListN.{length, getD}
-use borrow.Author.Tests.{eqb-true, ne-eqb, ltb-true, ltb-false, lt-ltb, le-ltb}
-use Rattle.lists.proofs.Logic.{cases, decided, same-bool, no-bool, clash}
+use borrow.Author.Tests.{eqb-true, eqb-false, ne-eqb, ltb-true, ltb-false, lt-ltb, le-ltb}
+use Rattle.lists.proofs.Logic.{cases, decided, same-bool}
 use Rattle.lists.proofs.Table.{table-length, table-at, table-by}
 use Rattle.plan.specs.Plan.{size}
-use Rattle.plan.specs.Check.{lengthOk, checkNumber, Accepted}
-use Rattle.plan.proofs.CheckLaws.{check-1, length-told}
+use Rattle.plan.specs.Check.{checkNumber, Accepted}
 use Rattle.plan.proofs.Main.{check-exact}
 use Rattle.event.specs.Site.{own}
-use Rattle.desks.specs.Desk.{nodes, deskOf, plainByte, plain, threes, deskCheck, DeskAccepted, used, usedBelow, deskRows, deskRow, deskLayout}
+use Rattle.desks.specs.Desk.{nodes, deskOf, plainByte, plain, deskCheck, DeskAccepted, used, usedBelow, deskRows, deskRow, deskLayout}
 use Rattle.desks.specs.Claim.{ownDesksByte, withOwnDesks}
 use Rattle.desks.proofs.AlikeLaws.{Alike}
 use Rattle.desks.proofs.RankLaws.{rank-all, rank-none}
-use Rattle.desks.proofs.DeskLaws.{threes-whole, accepted-checks, nodes-use, used-by}
+use Rattle.desks.proofs.DeskLaws.{same-nodes, check-by-plain, accepted-checks, nodes-use, used-by}
 
 module _ (p : List ℕ) where
   abbrev w : List ℕ
@@ -78,13 +77,9 @@ module _ (p : List ℕ) where
     }
 
     pub check-own : deskCheck w ≡ checkNumber p
-    unfolding deskCheck
     check-own = cases (decided (eqb (checkNumber p) 0))
         (λ z. let n = eqb-true (checkNumber p) 0 z in accepted-checks w (own-accepted (check-exact p .0 n)) ∙ sym n)
-        (λ z. cases (decided (threes w))
-        (λ t. rw (t, plain-own, z))
-        (λ t. rw t (check-1 p (no-bool (lengthOk p) (λ h. let g = length-told p h in
-        let a = g .some in let b = g .few in clash (threes w) (threes-whole w (own-length ∙ rw own-nodes) (rw own-nodes a) (rw own-nodes b)) t)))))
+        (λ z. check-by-plain w (own-length ∙ rw own-nodes) (λ n. eqb-false (checkNumber p) 0 z (ap checkNumber (sym plain-own) ∙ n)) ∙ ap checkNumber plain-own)
 
   -- THE LAYOUT
   module _ (few : size p ≤ 160) where
@@ -111,3 +106,24 @@ module _ (p : List ℕ) where
           (λ l. inl (row-own d (ltb-true d (size p) l)))
           (λ l. let o = ltb-false d (size p) l in inr (rw (rows-own, row-none d o) (omega arith), rw rows-own o));
     }
+
+-- every plan whose nodes have their own numbers for desks is of this form
+module _ (p : List ℕ) (whole : length p ≡ 3 * nodes p) (desks : (v : ℕ) → v < nodes p → deskOf p v ≡ v) where
+  own-byte : (i : ℕ) → i < length p → ownDesksByte (plain p) i ≡ getD p i 0
+  unfolding ownDesksByte deskOf plain plainByte
+  own-byte i l = cases (decided (eqb (i % 3) 2))
+      (λ h. let r = eqb-true (i % 3) 2 h in
+      let k : 3 * (i / 3) + 2 ≡ i = omega arith in
+      rw h (sym (desks (i / 3) (omega arith)) ∙ ap (λ (j : ℕ). getD p j 0) k))
+      (λ h. let r = eqb-false (i % 3) 2 h in
+      let j : ℕ = 2 * (i / 3) + i % 3 in
+      let a : j / 2 ≡ i / 3 = omega arith in
+      let b : j % 2 ≡ i % 3 = omega arith in
+      let k : 3 * (i / 3) + i % 3 ≡ i = omega arith in
+      rw h (table-at (plainByte p) (2 * nodes p) j (omega arith) ∙ rw (a, b, k)))
+
+  pub own-form : withOwnDesks (plain p) ≡ p
+  unfolding withOwnDesks
+  own-form =
+      let n : 3 * size (plain p) ≡ length p = ap (λ (k : ℕ). 3 * k) (same-nodes p) ∙ sym whole in
+      sym (table-by (ownDesksByte (plain p)) (3 * size (plain p)) p (sym n) (λ i l. sym (own-byte i (omega (arith, n)))))

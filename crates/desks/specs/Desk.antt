@@ -3,7 +3,7 @@
 use mathlib.Core.Path.{_≡_}
 use mathlib.Core.Bool.{Bool, cond, _&&_, not}
 use mathlib.Core.List.{List}
-use mathlib.Core.Logic.{_↔_}
+use mathlib.Core.Logic.{_↔_, _⊎_}
 use Prim.Native.Nat.{ℕ, _+_, _*_, _/_, _%_, _≤_, _<_}
 use lib.Dec.{eqb, ltb, leb}
 use lib.ListN.{length, getD}
@@ -50,6 +50,12 @@ pub record DeskAccepted (p : List ℕ) : Type 0 where
 -- CLAIM (N2). The check passes every such plan, and no other.
 abbrev pub DeskCheckExact : Type 0
 DeskCheckExact = (p : List ℕ) → (deskCheck p ≡ 0) ↔ DeskAccepted p
+
+-- CLAIM (N2). Which number each other plan gets: 1 for its length, then the plain plan's, then 22 for a desk above 9f.
+pub record DeskNumbers (p : List ℕ) : Type 0 where
+  pub by-length : (length p ≡ 0) ⊎ (480 < length p) ⊎ (length p % 3 ≡ 0 → ⊥) → deskCheck p ≡ 1
+  pub by-plain : length p ≡ 3 * nodes p → (checkNumber (plain p) ≡ 0 → ⊥) → deskCheck p ≡ checkNumber (plain p)
+  pub by-desk : length p ≡ 3 * nodes p → checkNumber (plain p) ≡ 0 → (v : ℕ) → v < nodes p → 159 < deskOf p v → deskCheck p ≡ 22
 
 -- N3: desk d is in use
 unfoldable pub used : List ℕ → ℕ → Bool

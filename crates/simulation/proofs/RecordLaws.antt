@@ -30,7 +30,7 @@ module _ (p : List ℕ) (lay : Layout) (st m c : List ℕ) where
   record-refused tab ok r e h = rw (ok, ne-eqb (recordNumber p lay st m c) 0 (λ z. h (e ∙ z)), e)
 
   module _ (zero : recordNumber p lay st m c ≡ 0) where
-    pub record-tests : Accepted p × ((eqb (length st) (lay .rows * size p) && eqb (length m) (size p) && eqb (length c) (size p)) ≡ true)
+    record-tests : Accepted p × ((eqb (length st) (lay .rows * size p) && eqb (length m) (size p) && eqb (length c) (size p)) ≡ true)
     unfolding recordNumber stateFits
     record-tests = fit-exact p _ .none .0 zero
 

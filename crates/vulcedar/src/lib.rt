@@ -387,12 +387,12 @@ fn desk_keep_result(
 ) -> KeptResult
     ensures { λ r. ⌜ ((es : List Entry) → length es ≡ len → AsKept (deskKeepOf (now (plan .entry)) (now (state .entry)) es (now (count .entry)) code node desk) (r .result) (now (state .exit)) (set es (r .at) (r .entry)) (now (count .exit))) ⌝ }
 {
-    let a = desk_calls::keep(plan, code, node, desk, state, len, count);
-    let verdict = a.verdict;
-    let entry = a.entry;
+    let kept = desk_calls::keep(plan, code, node, desk, state, len, count);
+    let verdict = kept.verdict;
+    let entry = kept.entry;
     KeptResult {
         result: of_verdict(verdict),
-        at: a.at,
+        at: kept.at,
         entry,
     }
 }
@@ -446,8 +446,8 @@ pub extern "C" fn vulcedar_desk_point_undo(
 ) -> u32
     ensures { λ r. ⌜ AsReturned (deskPointUndoOf (now (plan .entry)) (now (state .entry)) (entriesOf (now (entries .entry))) (now (count .entry)) (now (names .entry)) (now (places .entry))) r (now (state .exit)) (now (count .exit)) (now (names .exit)) (now (places .exit)) ⌝ }
 {
-    let undone = desk_calls::point_undo(plan, state, entries, count, names, places);
-    packed(undone, 0)
+    let taken = desk_calls::point_undo(plan, state, entries, count, names, places);
+    packed(taken, 0)
 }
 
 #[no_mangle]
@@ -462,8 +462,8 @@ pub extern "C" fn vulcedar_desk_point_back(
 ) -> u32
     ensures { λ r. ⌜ AsReturned (deskPointBackOf (now (plan .entry)) (now (name .entry)) (now (state .entry)) (entriesOf (now (entries .entry))) (now (count .entry)) (now (names .entry)) (now (places .entry))) r (now (state .exit)) (now (count .exit)) (now (names .exit)) (now (places .exit)) ⌝ }
 {
-    let gone = desk_calls::point_back(plan, name, state, entries, count, names, places);
-    packed(gone, 0)
+    let back = desk_calls::point_back(plan, name, state, entries, count, names, places);
+    packed(back, 0)
 }
 
 #[no_mangle]

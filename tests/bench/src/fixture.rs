@@ -1,7 +1,9 @@
-//! A plan with all kinds of blocks, and a job of it that is half done.
+//! A plan with all kinds of blocks, and a job of it that is half done; and the
+//! same with desks.
 
 use differential::codes::*;
 use differential::driver::{Driver, Step, Temper, Tree};
+use differential::form::{Form, Seats};
 use differential::random::Random;
 use differential::{Implementation, Reference};
 
@@ -23,9 +25,10 @@ pub struct PlacedStep {
 /// What the functions are measured on.
 #[derive(Clone)]
 pub struct Fixture {
+    pub form: Form,
     pub plan: Vec<u8>,
     pub nodes: usize,
-    /// All events that apply, with the site each happens at.
+    /// All events that apply, with the row by which each is decided.
     pub events: Vec<(u32, u32, usize)>,
     /// Each of these events, and a message of each.
     pub steps: Vec<PlacedStep>,
@@ -37,23 +40,50 @@ pub struct Fixture {
     /// Answers with which every task works.
     pub answers: Vec<u8>,
     /// A text as long as may be: a job of the plan, then each of the steps
-    /// again and again.
+    /// again and again. A plan with desks has none.
     pub text: Vec<u8>,
 }
 
 impl Fixture {
     /// A plan of 10 to 96 or of 160 nodes and its half-done job.
     pub fn new(nodes: usize) -> Fixture {
-        let plan = plan(nodes);
-        let tree = Tree::new(&plan);
-        let events = events(&tree, nodes);
-        let steps: Vec<PlacedStep> = events.iter().flat_map(|&event| placed_steps(event, nodes)).collect();
-        let whole = job(&plan, usize::MAX);
-        let state = job(&plan, whole.events / 2).state;
-        let (marks, notes) = seen_from_above(&plan, &tree, &state);
-        let text = long_text(&plan, &whole.steps, &steps);
-        Fixture { nodes, events, steps, state, marks, notes, answers: vec![1; nodes], text, plan }
+        Fixture::of(Form::Plain, plan(nodes))
     }
+
+    /// The same plan with desks.
+    pub fn with_desks(nodes: usize) -> Fixture {
+        Fixture::of(Form::Desks, at_desks(&plan(nodes)))
+    }
+
+    /// The same rows and events, with the plan that has no desks.
+    pub fn without_desks(&self) -> Fixture {
+        Fixture { form: Form::Plain, plan: self.form.plain(&self.plan).into_owned(), ..self.clone() }
+    }
+
+    fn of(form: Form, plan: Vec<u8>) -> Fixture {
+        let nodes = form.nodes(&plan);
+        let tree = Tree::new(&form.plain(&plan));
+        let seats = Seats::new(form, &plan);
+        let events = events(&tree, &seats, nodes);
+        let steps: Vec<PlacedStep> =
+            events.iter().flat_map(|&event| placed_steps(event, &seats, nodes)).collect();
+        let whole = job(form, &plan, usize::MAX);
+        let state = job(form, &plan, whole.events / 2).state;
+        let (marks, notes) = seen_from_above(form, &plan, &state);
+        let text = if form == Form::Plain { long_text(&plan, &whole.steps, &steps) } else { vec![] };
+        Fixture { form, nodes, events, steps, state, marks, notes, answers: vec![1; nodes], text, plan }
+    }
+}
+
+/// A plan with desks: about three nodes share one, and neither they nor the
+/// desks' numbers stand in order.
+fn at_desks(plan: &[u8]) -> Vec<u8> {
+    let desks = (plan.len() / 2).div_ceil(3);
+    let desk = |node: usize| ((5 * node + 3) % desks * 37 + 11) % 160;
+    let with_desks: Vec<u8> =
+        plan.chunks(2).enumerate().flat_map(|(node, bytes)| [bytes[0], bytes[1], desk(node) as u8]).collect();
+    assert_eq!((Reference.desk_check(&with_desks), Form::Desks.rows(&with_desks)), (0, desks));
+    with_desks
 }
 
 /// Blocks of two tasks, below the root or below three groups of it.
@@ -84,19 +114,20 @@ fn add_blocks(plan: &mut Vec<u8>, parent: u8, nodes: usize) {
     }
 }
 
-fn events(tree: &Tree, nodes: usize) -> Vec<(u32, u32, usize)> {
+fn events(tree: &Tree, seats: &Seats, nodes: usize) -> Vec<(u32, u32, usize)> {
     let all = (1..=8).flat_map(|code| (0..nodes).map(move |node| (code, node)));
     let apply = all.filter(|&(code, node)| tree.applies(code, node));
-    apply.map(|(code, node)| (code, node as u32, tree.site(code, node))).collect()
+    let row = |code, node| seats.row(seats.of(tree.site(code, node))).expect("every site has a row");
+    apply.map(|(code, node)| (code, node as u32, row(code, node))).collect()
 }
 
-/// The event itself, and a message of it to some other site.
-fn placed_steps((code, node, site): (u32, u32, usize), nodes: usize) -> [PlacedStep; 2] {
-    let hearer = (site + 1) % nodes;
+/// The event itself, and a message of it into some other row.
+fn placed_steps((code, node, own): (u32, u32, usize), seats: &Seats, nodes: usize) -> [PlacedStep; 2] {
+    let hearer = (own + 1) % seats.numbers().len();
     let at = |row: usize| row * nodes + node as usize;
     [
-        PlacedStep { step: Step { code, node, site: HAPPENS }, place: at(site) },
-        PlacedStep { step: Step { code, node, site: hearer as u32 }, place: at(hearer) },
+        PlacedStep { step: Step { code, node, site: HAPPENS }, place: at(own) },
+        PlacedStep { step: Step { code, node, site: seats.numbers()[hearer] }, place: at(hearer) },
     ]
 }
 
@@ -121,16 +152,15 @@ struct Job {
 }
 
 /// So many events of a job, or all.
-fn job(plan: &[u8], most: usize) -> Job {
-    let nodes = plan.len() / 2;
+fn job(form: Form, plan: &[u8], most: usize) -> Job {
     let mut steps = Vec::new();
-    let mut random = Random::new(nodes as u64);
-    let mut driver = Driver::new(plan, Temper { failing: 10, noise: 0, late: 0, eager: 50 });
-    let mut state = vec![0; nodes * nodes];
+    let mut random = Random::new(form.nodes(plan) as u64);
+    let mut driver = Driver::new(form, plan, Temper { failing: 10, noise: 0, late: 0, eager: 50 });
+    let mut state = vec![0; form.state_length(plan)];
     while driver.passed().len() < most
         && let Some(step) = driver.propose(&mut random)
     {
-        let result = Reference.simulate(plan, step.code, step.node, step.site, &mut state);
+        let result = form.simulate(&mut Reference, plan, step, &mut state);
         driver.heed(step, number(result) == 0, &mut random);
         steps.push(step);
     }
@@ -138,12 +168,15 @@ fn job(plan: &[u8], most: usize) -> Job {
 }
 
 /// Marks, answers and picks of a state.
-fn seen_from_above(plan: &[u8], tree: &Tree, state: &[u8]) -> (Vec<u8>, Vec<u8>) {
-    let nodes = plan.len() / 2;
+fn seen_from_above(form: Form, plan: &[u8], state: &[u8]) -> (Vec<u8>, Vec<u8>) {
+    let nodes = form.nodes(plan);
     let (mut marks, mut classes) = (vec![0; nodes], vec![0; nodes]);
-    assert_eq!(Reference.record(plan, state, &mut marks, &mut classes), 0);
-    let heard = |code: u32, node: usize| state[tree.site(code, node) * nodes + node] & bit(code);
-    let notes = (0..nodes).map(|node| heard(YES, node) | heard(NO, node) | heard(PICK, node));
+    assert_eq!(form.record(&mut Reference, plan, state, &mut marks, &mut classes), 0);
+    let heard = |code: u32, node: u32| {
+        let place = form.place(plan, Step { code, node, site: HAPPENS });
+        place.map_or(0, |place| state[place] & bit(code))
+    };
+    let notes = (0..nodes as u32).map(|node| heard(YES, node) | heard(NO, node) | heard(PICK, node));
     (marks, notes.collect())
 }
 
@@ -156,19 +189,41 @@ mod tests {
     #[test]
     fn fixtures_are_half_way() {
         for nodes in [10, 40, 160] {
+            is_half_way(&Fixture::with_desks(nodes));
             let fixture = Fixture::new(nodes);
-            let running = fixture.marks.iter().filter(|&&mark| mark == 1).count();
-            assert!(running > 0, "{nodes}: {:?}", fixture.marks);
-            let mut met = [0; 16];
-            for PlacedStep { step, .. } in fixture.steps {
-                let mut state = fixture.state.clone();
-                let result = Reference.simulate(&fixture.plan, step.code, step.node, step.site, &mut state);
-                met[usize::from(number(result))] += 1;
-            }
-            assert!([0, 10, 11, 12].iter().all(|&number| met[number] > 0), "{nodes}: {met:?}");
+            is_half_way(&fixture);
             let result = Reference.rehearse(&fixture.text, &mut vec![0; 16_384]);
             assert_eq!(number(result), 0, "{nodes}");
             assert!(fixture.text.len() > LONGEST_TEXT - 7, "{nodes}: {}", fixture.text.len());
+        }
+    }
+
+    fn is_half_way(fixture: &Fixture) {
+        let Fixture { form, plan, nodes, .. } = fixture;
+        let running = fixture.marks.iter().filter(|&&mark| mark == 1).count();
+        assert!(running > 0, "{form:?} {nodes}: {:?}", fixture.marks);
+        let mut met = [0; 16];
+        for &PlacedStep { step, place } in &fixture.steps {
+            let mut state = fixture.state.clone();
+            let result = form.simulate(&mut Reference, plan, step, &mut state);
+            met[usize::from(number(result))] += 1;
+            state[place] = fixture.state[place];
+            assert_eq!(state, fixture.state, "{step:?}");
+        }
+        assert!([0, 10, 11, 12].iter().all(|&number| met[number] > 0), "{form:?} {nodes}: {met:?}");
+    }
+
+    /// The rows that a desk's step is measured on serve a site's too, and it
+    /// has the same number there.
+    #[test]
+    fn desks_and_sites_have_the_same_rows() {
+        let fixture = Fixture::with_desks(40);
+        let plain = fixture.without_desks();
+        for &(code, node, row) in &fixture.events {
+            let row = &fixture.state[row * 40..][..40];
+            let at_desk = Reference.desk_step(&fixture.plan, code, node, &mut row.to_vec());
+            let at_site = Reference.step(&plain.plan, code, node, &mut row.to_vec());
+            assert_eq!(number(at_desk), number(at_site));
         }
     }
 }

@@ -1,5 +1,6 @@
 //! Measures each exported function of the C archive against the reference,
-//! and a whole job by simulate: same inputs, in turn, medians of many rounds.
+//! a step at a desk against one at a site, and a whole job by simulate: same
+//! inputs, in turn, medians of many rounds.
 
 mod fixture;
 mod job;
@@ -10,9 +11,10 @@ use differential::{Implementation, Reference};
 use fixture::Fixture;
 use job::Script;
 use measure::{Medians, in_turn};
+use std::cell::RefCell;
 use std::env;
 use std::process::ExitCode;
-use work::{KEY, NAMES, Work};
+use work::{KEY, NAMES, Work, takes_desks};
 
 const USAGE: &str = "usage: bench [--self] [--rounds N] [--only FUNCTION]";
 /// The sizes of the measured plans.
@@ -37,7 +39,7 @@ struct Options {
     /// How often each side is measured.
     rounds: usize,
     /// Only this function; "job" is the whole job, "typing" what an editor
-    /// waits for.
+    /// waits for, "desks" a step at a desk beside one at a site.
     only: Option<String>,
 }
 
@@ -83,14 +85,7 @@ fn start_archive(_: &Options) -> Result<(), String> {
 
 /// Measures everything and prints the table.
 fn compare(name: &str, subject: &mut impl Implementation, options: &Options) -> Result<(), String> {
-    println!(
-        "{:<12}{:>6}{:>14}{:>14}{:>8}",
-        "function",
-        "nodes",
-        format!("{name} ns"),
-        "reference ns",
-        "ratio"
-    );
+    print_heading("function", &format!("{name} ns"), "reference ns");
     for function in NAMES.into_iter().filter(|function| options.wants(function)) {
         for nodes in SIZES {
             let medians = compare_function(function, nodes, subject, options.rounds)?;
@@ -99,6 +94,9 @@ fn compare(name: &str, subject: &mut impl Implementation, options: &Options) -> 
     }
     if options.wants("typing") {
         compare_typing(subject, options.rounds)?;
+    }
+    if options.wants("desks") {
+        compare_desks(name, subject, options.rounds);
     }
     if options.wants("job") {
         compare_job(name, subject, options.rounds.div_ceil(10))?;
@@ -112,7 +110,7 @@ fn compare_function(
     subject: &mut impl Implementation,
     rounds: usize,
 ) -> Result<Medians, String> {
-    let fixture = Fixture::new(nodes);
+    let fixture = if takes_desks(function) { Fixture::with_desks(nodes) } else { Fixture::new(nodes) };
     let (mut theirs, mut ours) = (Work::new(function, &fixture), Work::new(function, &fixture));
     if theirs.run(subject) != ours.run(&mut Reference) {
         return Err(format!("{function} answers differently with {nodes} nodes; run the differential test"));
@@ -134,6 +132,26 @@ fn compare_typing(subject: &mut impl Implementation, rounds: usize) -> Result<()
         print_line("key", nodes, &compare_function(KEY, nodes, subject, rounds)?);
     }
     Ok(())
+}
+
+/// A step at a desk beside one at a site, of the subject alone: the same events
+/// on the same rows, with the plan that has desks and with the plain one.
+fn compare_desks(name: &str, subject: &mut impl Implementation, rounds: usize) {
+    print_heading(&format!("{name} alone"), "desk_step ns", "step ns");
+    let subject = RefCell::new(subject);
+    for nodes in SIZES {
+        let fixture = Fixture::with_desks(nodes);
+        let mut at_desks = Work::new("desk_step", &fixture);
+        let mut at_sites = Work::new("step", &fixture.without_desks());
+        let calls = at_desks.calls();
+        let medians = in_turn(
+            rounds,
+            calls,
+            || at_desks.run(*subject.borrow_mut()),
+            || at_sites.run(*subject.borrow_mut()),
+        );
+        print_line("desks/sites", nodes, &medians);
+    }
 }
 
 fn compare_job(name: &str, subject: &mut impl Implementation, rounds: usize) -> Result<(), String> {
@@ -158,6 +176,10 @@ fn compare_job(name: &str, subject: &mut impl Implementation, rounds: usize) -> 
     Ok(())
 }
 
+fn print_heading(name: &str, theirs: &str, ours: &str) {
+    println!("{name:<15}{:>6}{theirs:>14}{ours:>14}{:>8}", "nodes", "ratio");
+}
+
 fn print_line(name: &str, nodes: usize, medians: &Medians) {
-    println!("{name:<12}{nodes:>6}{:>14.1}{:>14.1}{:>8.2}", medians.theirs, medians.ours, medians.ratio());
+    println!("{name:<15}{nodes:>6}{:>14.1}{:>14.1}{:>8.2}", medians.theirs, medians.ours, medians.ratio());
 }

@@ -11,7 +11,7 @@ use differential::texts::OUT_BYTES;
 use std::hint::black_box;
 
 /// The measured functions.
-pub const NAMES: [&str; 21] = [
+pub const NAMES: [&str; 29] = [
     "check",
     "depths",
     "rewrite",
@@ -33,7 +33,20 @@ pub const NAMES: [&str; 21] = [
     "pass_record",
     "central",
     "rehearse",
+    "desk_check",
+    "desk_step",
+    "desk_simulate",
+    "desk_keep",
+    "desk_undo",
+    "desk_point_undo",
+    "desk_point_back",
+    "desk_record",
 ];
+
+/// Whether a function takes plans with desks.
+pub fn takes_desks(function: &str) -> bool {
+    function.starts_with("desk_")
+}
 
 /// One key typed in a plan: a byte changes, and the plan is checked with its
 /// depths. Every byte of the plan is changed once, to each of two others.
@@ -59,6 +72,7 @@ const CALLS: usize = 100;
 
 /// One side's work.
 pub struct Work {
+    /// The function; of one for plans with desks, the one of the same name without.
     function: &'static str,
     fixture: Fixture,
     buffer: [u8; 300],
@@ -106,7 +120,7 @@ impl Work {
     pub fn new(function: &'static str, fixture: &Fixture) -> Work {
         let nodes = fixture.nodes;
         Work {
-            function,
+            function: function.strip_prefix("desk_").unwrap_or(function),
             fixture: fixture.clone(),
             buffer: [0; 300],
             out: vec![0; nodes],
@@ -134,7 +148,7 @@ impl Work {
     /// Makes all calls; answers a sum over the results.
     pub fn run(&mut self, subject: &mut impl Implementation) -> u32 {
         match self.function {
-            "check" => self.repeat(|work| subject.check(black_box(&work.fixture.plan))),
+            "check" => self.repeat(|work| work.fixture.form.check(subject, black_box(&work.fixture.plan))),
             "rewrite" => self.repeat(|work| {
                 let plan = &work.fixture.plan;
                 subject.rewrite(black_box(plan), &mut work.rewritten)
@@ -148,7 +162,8 @@ impl Work {
             }),
             "record" => self.repeat(|work| {
                 let fixture = &work.fixture;
-                subject.record(black_box(&fixture.plan), &fixture.state, &mut work.out, &mut work.more)
+                let (plan, state) = (black_box(&fixture.plan), &fixture.state);
+                fixture.form.record(subject, plan, state, &mut work.out, &mut work.more)
             }),
             "record_by" => self.repeat(|work| {
                 let fixture = &work.fixture;
@@ -219,19 +234,20 @@ impl Work {
     }
 
     fn steps(&mut self, subject: &mut impl Implementation) -> u32 {
-        self.on_rows(|plan, code, node, row| subject.step(plan, code, node, row))
+        let form = self.fixture.form;
+        self.on_rows(|plan, code, node, row| form.step(subject, plan, code, node, row))
     }
 
     fn hears(&mut self, subject: &mut impl Implementation) -> u32 {
         self.on_rows(|plan, code, node, row| subject.hear(plan, code, node, row))
     }
 
-    /// Each event at the row of its site.
+    /// Each event by its row.
     fn on_rows(&mut self, mut call: impl FnMut(&[u8], u32, u32, &mut [u8]) -> u32) -> u32 {
         let Fixture { plan, nodes, events, state, .. } = &mut self.fixture;
         let mut sum = 0;
-        for &(code, node, site) in events.iter() {
-            let row = &mut state[site * *nodes..][..*nodes];
+        for &(code, node, row) in events.iter() {
+            let row = &mut state[row * *nodes..][..*nodes];
             let before = row[node as usize];
             sum = mix(sum, call(black_box(plan), code, node, row));
             row[node as usize] = before;
@@ -240,35 +256,38 @@ impl Work {
     }
 
     fn simulations(&mut self, subject: &mut impl Implementation) -> u32 {
-        self.on_states(|plan, Step { code, node, site }, state, _| {
-            subject.simulate(plan, code, node, site, state)
-        })
+        let form = self.fixture.form;
+        self.on_states(|plan, step, state, _| form.simulate(subject, plan, step, state))
     }
 
     /// Each step at the same place, whose entry no other call reads.
     fn keeps(&mut self, subject: &mut impl Implementation) -> u32 {
+        let form = self.fixture.form;
         self.on_states(|plan, step, state, entries| {
             let mut count = PLACES / 2;
-            subject.keep(plan, step, state, entries, black_box(&mut count)) + count as u32
+            form.keep(subject, plan, step, (state, entries, black_box(&mut count))) + count as u32
         })
     }
 
     /// Each step as the last entry.
     fn undos(&mut self, subject: &mut impl Implementation) -> u32 {
+        let form = self.fixture.form;
         self.on_states(|plan, Step { code, node, site }, state, entries| {
             let mut count = PLACES / 2;
             entries[count - 1] = [code as u8, node as u8, site as u8, 1];
-            subject.undo(plan, state, entries, black_box(&mut count)) + count as u32
+            form.undo(subject, plan, (state, entries, black_box(&mut count))) + count as u32
         })
     }
 
     /// Each step as the last entry, behind which the third point is.
     fn point_undos(&mut self, subject: &mut impl Implementation) -> u32 {
+        let form = self.fixture.form;
         let mut points = std::mem::replace(&mut self.points, Points::at(&[]));
         let sum = self.on_states(|plan, Step { code, node, site }, state, entries| {
             let mut count = PLACES / 2;
             entries[count - 1] = [code as u8, node as u8, site as u8, 1];
-            let result = subject.point_undo(plan, state, entries, black_box(&mut count), points.slots());
+            let kept = (state, entries, black_box(&mut count));
+            let result = form.point_undo(subject, plan, kept, points.slots());
             let sum = result + count as u32 + points.places[2] as u32;
             points.put(2, POINTS[2]);
             sum
@@ -280,7 +299,7 @@ impl Work {
     /// Each step as the oldest of those behind the first point, with those that
     /// follow it.
     fn point_backs(&mut self, subject: &mut impl Implementation) -> u32 {
-        let Fixture { plan, steps, state, .. } = &mut self.fixture;
+        let Fixture { form, plan, steps, state, .. } = &mut self.fixture;
         let mut sum = 0;
         for first in 0..steps.len() {
             let way: [PlacedStep; WAY] = std::array::from_fn(|next| steps[(first + next) % steps.len()]);
@@ -292,8 +311,8 @@ impl Work {
             let mut count = PLACES / 2;
             let (name, slots) = (Points::name(0), self.points.slots());
             let plan = black_box(&*plan);
-            let entries = &mut self.entries;
-            let result = subject.point_back(plan, &name, state, entries, black_box(&mut count), slots);
+            let kept = (&mut state[..], &mut self.entries[..], black_box(&mut count));
+            let result = form.point_back(subject, plan, &name, kept, slots);
             sum = mix(sum, result + count as u32 + self.points.places[1] as u32);
             way.iter().zip(before).for_each(|(placed, byte)| state[placed.place] = byte);
             [1, 2].into_iter().for_each(|slot| self.points.put(slot, POINTS[slot]));
@@ -341,7 +360,8 @@ mod tests {
     #[test]
     fn rounds_are_alike() {
         for function in NAMES.into_iter().chain([KEY]) {
-            let mut work = Work::new(function, &Fixture::new(40));
+            let fixture = if takes_desks(function) { Fixture::with_desks(40) } else { Fixture::new(40) };
+            let mut work = Work::new(function, &fixture);
             let state = work.fixture.state.clone();
             let first = work.run(&mut Reference);
             assert_eq!(work.run(&mut Reference), first, "{function}");

@@ -124,6 +124,71 @@ impl Implementation for Archive {
         vulcedar::pass_record(plan, table, answers, marks, classes)
     }
 
+    fn desk_check(&mut self, plan: &[u8]) -> u32 {
+        vulcedar::desk_check(plan)
+    }
+
+    fn desk_step(&mut self, plan: &[u8], code: u32, node: u32, row: &mut [u8]) -> u32 {
+        vulcedar::desk_step(plan, code, node, row)
+    }
+
+    fn desk_simulate(&mut self, plan: &[u8], code: u32, node: u32, desk: u32, state: &mut [u8]) -> u32 {
+        vulcedar::desk_simulate(plan, code, node, desk, state)
+    }
+
+    fn desk_keep(
+        &mut self,
+        plan: &[u8],
+        step: Step,
+        state: &mut [u8],
+        entries: &mut [Entry],
+        count: &mut usize,
+    ) -> u32 {
+        vulcedar::desk_keep(plan, step.code, step.node, step.site, state, entries, count)
+    }
+
+    fn desk_undo(&mut self, plan: &[u8], state: &mut [u8], entries: &mut [Entry], count: &mut usize) -> u32 {
+        vulcedar::desk_undo(plan, state, entries, count)
+    }
+
+    fn desk_point_undo(
+        &mut self,
+        plan: &[u8],
+        state: &mut [u8],
+        entries: &mut [Entry],
+        count: &mut usize,
+        slots: Slots,
+    ) -> u32 {
+        vulcedar::desk_point_undo(plan, state, entries, count, slots.names, slots.places)
+    }
+
+    fn desk_point_back(
+        &mut self,
+        plan: &[u8],
+        name: &[u8],
+        state: &mut [u8],
+        entries: &mut [Entry],
+        count: &mut usize,
+        slots: Slots,
+    ) -> u32 {
+        vulcedar::desk_point_back(plan, name, state, entries, count, slots.names, slots.places)
+    }
+
+    fn desk_record(&mut self, plan: &[u8], state: &[u8], marks: &mut [u8], classes: &mut [u8]) -> u32 {
+        vulcedar::desk_record(plan, state, marks, classes)
+    }
+
+    fn desk_record_by(
+        &mut self,
+        plan: &[u8],
+        table: &[u8],
+        state: &[u8],
+        marks: &mut [u8],
+        classes: &mut [u8],
+    ) -> u32 {
+        vulcedar::desk_record_by(plan, table, state, marks, classes)
+    }
+
     fn rehearse(&mut self, text: &[u8], out: &mut [u8]) -> u32 {
         vulcedar::rehearse(text, out)
     }

@@ -3,10 +3,12 @@
 
 use crate::codes::*;
 use crate::driver::{Step, Tree};
+use crate::form::{Form, Kept};
 use crate::implementation::{Entry, Implementation, Reference, Slots};
 use crate::tables;
 use crate::texts::{OUT_BYTES, Sound};
 
+mod desks;
 mod points;
 
 /// A mistake: those the document warns of, its worthless versions, and slips
@@ -339,11 +341,73 @@ pub enum Mistake {
     BackPickAtTheChild,
     /// Going back over a message clears the bit in the event's own row.
     BackMessageAtTheEvent,
+    /// Rows stand in the order in which the plan first names their desks.
+    RowsByFirstUse,
+    /// Rows stand in falling desk number.
+    RowsFalling,
+    /// Desks that no node has, below the highest in use, have rows too.
+    UnusedDesksHaveRows,
+    /// A state has as many rows as there are nodes.
+    RowsOfAllSites,
+    /// Whether a message is false is read in the row of the desk that it names.
+    NotHappenedByTheNamedDesk,
+    /// A mark is read in the row whose number is the node's.
+    MarkInTheRowOfTheNode,
+    /// 22 comes before 2.
+    DesksBeforeKinds,
+    /// 22 comes before 6.
+    DesksBeforeDepth,
+    /// 22 comes after 7.
+    DesksAfterLengths,
+    /// The desk a0 is accepted.
+    DeskA0Accepted,
+    /// The desk 9f is refused.
+    HighestDeskRefused,
+    /// What stands behind 480 bytes of a plan with desks is overlooked.
+    MoreThan480Bytes,
+    /// What doesn't make a whole node of three bytes is overlooked.
+    BytesLeftOver,
+    /// A message to a desk that isn't in use goes to the first row.
+    UnusedDeskIsTheFirst,
+    /// A desk above 9f is taken for ff.
+    DesksAboveAreEvents,
+    /// Numbers of desks are cut to a byte.
+    DesksCut,
+    /// A message to the desk that decides its event is refused with 12.
+    OwnDeskIsNotTold,
+    /// An event that passes is heard at every desk.
+    EventHeardEverywhere,
+    /// A pick is decided at the parent's desk and set at the node's.
+    PickSetAtTheNodesDesk,
+    /// The result of a pick names the node's desk.
+    PickNamesTheNodesDesk,
+    /// Results name the row instead of the desk.
+    ResultsNameTheRow,
+    /// A step at a desk answers the number of the site.
+    DeskStepNamesTheSite,
+    /// A message's entry has the row instead of the desk.
+    EntryHasTheRow,
+    /// Taking a message back clears the bit in the row that has the desk's number.
+    TakeBackInTheRowOfTheNumber,
+    /// Taking a message back clears the bit at the desk of its event.
+    TakeBackAtTheEventsDesk,
+    /// Taking a pick back clears the bit at the node's desk.
+    PickTakenBackAtTheNode,
+    /// With desks, a take-back leaves the points that it passes.
+    DeskTakeBackDropsNothing,
+    /// With desks, a going back leaves the points that it passes.
+    DeskBackDropsNothing,
+    /// With desks, a table handed in is checked and then not used.
+    DeskTableIgnored,
+    /// With desks, the plan is checked before the table.
+    DeskPlanBeforeTable,
+    /// A record that is refused with 22 has already written marks.
+    RefusedDesksWrite,
 }
 
 impl Mistake {
     /// All mistakes; the first is number 1.
-    pub const ALL: [Mistake; 163] = [
+    pub const ALL: [Mistake; 194] = [
         Mistake::CommitUnlessAbortHeard,
         Mistake::PickAtTheChild,
         Mistake::TurnedDownStillRuns,
@@ -507,6 +571,37 @@ impl Mistake {
         Mistake::BackOnlyIfOne,
         Mistake::BackPickAtTheChild,
         Mistake::BackMessageAtTheEvent,
+        Mistake::RowsByFirstUse,
+        Mistake::RowsFalling,
+        Mistake::UnusedDesksHaveRows,
+        Mistake::RowsOfAllSites,
+        Mistake::NotHappenedByTheNamedDesk,
+        Mistake::MarkInTheRowOfTheNode,
+        Mistake::DesksBeforeKinds,
+        Mistake::DesksBeforeDepth,
+        Mistake::DesksAfterLengths,
+        Mistake::DeskA0Accepted,
+        Mistake::HighestDeskRefused,
+        Mistake::MoreThan480Bytes,
+        Mistake::BytesLeftOver,
+        Mistake::UnusedDeskIsTheFirst,
+        Mistake::DesksAboveAreEvents,
+        Mistake::DesksCut,
+        Mistake::OwnDeskIsNotTold,
+        Mistake::EventHeardEverywhere,
+        Mistake::PickSetAtTheNodesDesk,
+        Mistake::PickNamesTheNodesDesk,
+        Mistake::ResultsNameTheRow,
+        Mistake::DeskStepNamesTheSite,
+        Mistake::EntryHasTheRow,
+        Mistake::TakeBackInTheRowOfTheNumber,
+        Mistake::TakeBackAtTheEventsDesk,
+        Mistake::PickTakenBackAtTheNode,
+        Mistake::DeskTakeBackDropsNothing,
+        Mistake::DeskBackDropsNothing,
+        Mistake::DeskTableIgnored,
+        Mistake::DeskPlanBeforeTable,
+        Mistake::RefusedDesksWrite,
     ];
 }
 
@@ -529,17 +624,21 @@ impl Broken {
     }
 
     /// An event of a valid plan at a row of the right length.
-    fn event(&mut self, plan: &[u8], code: u32, node: u32, row: &mut [u8]) -> u32 {
-        let tree = Tree::new(plan);
+    fn event(&mut self, form: Form, plan: &[u8], code: u32, node: u32, row: &mut [u8]) -> u32 {
+        let plain = &*form.plain(plan);
+        let tree = Tree::new(plain);
         let mut view = row.to_vec();
         self.misread(&tree, code, node as usize, &mut view);
-        let result = self.honest.step(&self.misread_kinds(plan), code, node, &mut view);
+        let result = self.honest.step(&self.misread_kinds(plain), code, node, &mut view);
         let applies = matches!(number(result), 0 | 10 | 11);
-        let at = result & 0xff00;
-        let rule = self.rule(plan, code, node) & !0xffff;
-        let result = if number(result) == 0 { at | rule } else { result };
+        let at = if applies { form.seat_of_event(plan, code, node as usize) << 8 } else { 0 };
+        let rule = self.rule(plain, code, node) & !0xffff;
+        let result = if number(result) == 0 { at | rule } else { u32::from(number(result)) | at };
         match self.mistake {
-            Mistake::PickAtTheChild if applies && code == PICK => return pick_at_child(node, row, rule),
+            Mistake::PickAtTheChild if applies && code == PICK => {
+                let at = form.seat(plan, node as usize) << 8;
+                return pick_at_child(node, row, at, rule);
+            }
             Mistake::GuardNeverHolds if applies => return 11 | at,
             Mistake::EmptyClauseHolds if number(result) == 11 && is_lone_offer(&tree, code, node, row) => {
                 row[node as usize] |= bit(code);
@@ -548,7 +647,7 @@ impl Broken {
             Mistake::SetsNothing => return result,
             Mistake::PretendsAfterTheFirst if applies && self.has_passed => return at | rule,
             Mistake::RuleWithRefusals if applies && number(result) != 0 => return result | rule,
-            Mistake::GuardBeforeBars if number(result) == 10 && !guard_holds(plan, code, node, row) => {
+            Mistake::GuardBeforeBars if number(result) == 10 && !guard_holds(plain, code, node, row) => {
                 return 11 | at;
             }
             _ => {}
@@ -735,7 +834,7 @@ impl Broken {
     /// A step that isn't kept: refused by itself, or for want of a place.
     fn not_kept(&self, step: Step, simulated: u32, entries: &mut [Entry], count: &mut usize) -> u32 {
         let has_place = *count < entries.len();
-        let by_itself = number(simulated) > 7;
+        let by_itself = (8..=12).contains(&number(simulated));
         match self.mistake {
             Mistake::FullJournalFindsStepFirst if by_itself => return simulated,
             Mistake::RefusedKeepWrites if by_itself && has_place => {
@@ -744,21 +843,23 @@ impl Broken {
             Mistake::RefusedStepIsKept if by_itself && has_place => *count += 1,
             _ => {}
         }
-        if has_place || matches!(number(simulated), 1..=7) { simulated } else { 7 }
+        if has_place || matches!(number(simulated), 1..=7 | 22) { simulated } else { 7 }
     }
 
     /// A take-back of a valid plan, with a state of the right length, of an
     /// entry that there is.
-    fn take_back(&self, plan: &[u8], state: &mut [u8], entry: Entry) -> u32 {
-        let entry = misread_entry(self.mistake, plan, entry);
+    fn take_back(&self, form: Form, plan: &[u8], state: &mut [u8], entry: Entry) -> u32 {
+        let entry = misread_entry(self.mistake, form, plan, entry);
         let before = state.to_vec();
-        let result = Reference.undo(plan, state, &mut [entry], &mut 1);
+        let result = form.undo(&mut Reference, plan, (state, &mut [entry], &mut 1));
         let [code, node, _, changed] = entry;
         let is_read = result == 0 || (result == 9 && self.mistake == Mistake::UndoOfAnything);
         if !is_read || changed == 0 {
             return result;
         }
-        let place = place_of_entry(plan, entry);
+        let Some(place) = form.place(plan, step_of(entry)) else {
+            return result;
+        };
         let was_set = before[place] & bit(code.into()) != 0;
         match self.mistake {
             Mistake::UndoTogglesTheBit => state[place] = before[place] ^ bit(code.into()),
@@ -766,7 +867,7 @@ impl Broken {
             Mistake::UndoNeedsTheBit if !was_set => return 12,
             Mistake::UndoOfAnything => state[place] &= !bit(code.into()),
             Mistake::UndoAnswersTheSite => {
-                return Tree::new(plan).site(code.into(), node.into()) as u32 * 256;
+                return form.seat_of_event(plan, code.into(), node.into()) << 8;
             }
             _ => {}
         }
@@ -775,23 +876,203 @@ impl Broken {
 
     /// A message of a valid plan, with a state of the right length, that the
     /// reference answered with this result.
-    fn message(&self, plan: &[u8], step: [u32; 3], state: &mut [u8], result: u32) -> u32 {
-        let [code, node, site] = step.map(|number| number as usize);
-        let nodes = plan.len() / 2;
-        match (self.mistake, number(result)) {
-            (Mistake::RuleWithMessages, 0) => Reference.rule(plan, code as u32, node as u32),
-            (Mistake::FalseMessageBelieved, 12) => {
-                state[site * nodes + node] |= bit(code as u32);
+    fn message(&self, form: Form, plan: &[u8], step: Step, state: &mut [u8], result: u32) -> u32 {
+        let Step { code, node, .. } = step;
+        let (told, own) = (form.place(plan, step), form.place(plan, Step { site: HAPPENS, ..step }));
+        match (self.mistake, number(result), told, own) {
+            (Mistake::RuleWithMessages, 0, ..) => Reference.rule(&form.plain(plan), code, node),
+            (Mistake::FalseMessageBelieved, 12, Some(told), _) => {
+                state[told] |= bit(code);
                 0
             }
-            (Mistake::MessageInTheWrongRow, 0) => {
-                let own = Tree::new(plan).site(code as u32, node);
-                state[site * nodes + node] &= !bit(code as u32);
-                state[own * nodes + node] |= bit(code as u32);
+            (Mistake::MessageInTheWrongRow, 0, Some(told), Some(own)) => {
+                state[told] &= !bit(code);
+                state[own] |= bit(code);
                 0
             }
             _ => result,
         }
+    }
+}
+
+/// The calls that there are in both forms. What is wrong with desks alone comes
+/// in between (`desks`).
+impl Broken {
+    fn check_in(&mut self, form: Form, plan: &[u8]) -> u32 {
+        let honest = form.check(&mut self.honest, plan);
+        let plain = form.plain(plan);
+        match self.mistake {
+            Mistake::RefusesEveryPlan => 1,
+            Mistake::RefusesKind8 if honest != 1 && plain.iter().step_by(2).any(|&kind| kind == 8) => 2,
+            Mistake::OneLevelMore if honest == 6 && levels(&plain) == 33 => 0,
+            Mistake::ParentsBeforeKinds if honest == 2 && !parents_are_right(&plain) => 3,
+            _ => honest,
+        }
+    }
+
+    fn step_in(&mut self, form: Form, plan: &[u8], code: u32, node: u32, row: &mut [u8]) -> u32 {
+        let (code, node) = (self.cut(code), self.cut(node));
+        let nodes = form.nodes(plan);
+        let is_in_range = (1..=8).contains(&code) && (node as usize) < nodes;
+        if form.check(&mut self.honest, plan) == 0 && row.len() == nodes && is_in_range {
+            return self.event(form, plan, code, node, row);
+        }
+        form.step(&mut self.honest, plan, code, node, row)
+    }
+
+    fn simulate_in(&mut self, form: Form, plan: &[u8], step: Step, state: &mut [u8]) -> u32 {
+        match form {
+            Form::Plain => self.simulate_alike(form, plan, step, state),
+            Form::Desks => desks::simulate(self, plan, step, state),
+        }
+    }
+
+    fn simulate_alike(&mut self, form: Form, plan: &[u8], step: Step, state: &mut [u8]) -> u32 {
+        let (code, node) = (self.cut(step.code), self.cut(step.node));
+        let step = Step { code, node, ..step };
+        let nodes = form.nodes(plan);
+        let is_valid = form.check(&mut self.honest, plan) == 0 && state.len() == form.state_length(plan);
+        if !is_valid || (node as usize) >= nodes || !(1..=8).contains(&code) {
+            return form.simulate(&mut self.honest, plan, step, state);
+        }
+        if step.site != HAPPENS {
+            let result = form.simulate(&mut self.honest, plan, step, state);
+            return self.message(form, plan, step, state, result);
+        }
+        let at_child = self.mistake == Mistake::PickAtTheChild;
+        let own = match at_child {
+            true => form.seat(plan, node as usize),
+            false => form.seat_of_event(plan, code, node as usize),
+        };
+        let own = form.row(plan, own).unwrap_or(0);
+        let known = match self.mistake {
+            Mistake::SimulationSeesAllRows => all_heard(state, nodes),
+            _ => vec![0; nodes],
+        };
+        let row = &mut state[own * nodes..][..nodes];
+        let mut seen: Vec<u8> = row.iter().zip(&known).map(|(own, known)| own | known).collect();
+        let result = self.event(form, plan, code, node, &mut seen);
+        row[node as usize] |= if number(result) == 0 { seen[node as usize] & bit(code) } else { 0 };
+        let root_starts = number(result) == 0 && code == START && node == 0;
+        if root_starts && self.mistake == Mistake::AllEndedAtTheRootsStart {
+            let own = |node: u32| form.place(plan, Step { code: COMMIT, node, site: HAPPENS });
+            (0..nodes as u32).filter_map(own).for_each(|place| state[place] |= bit(COMMIT));
+        }
+        result
+    }
+
+    fn keep_in(&mut self, form: Form, plan: &[u8], step: Step, (state, entries, count): Kept) -> u32 {
+        let mut after = state.to_vec();
+        let result = self.simulate_in(form, plan, step, &mut after);
+        let has_place = *count < entries.len();
+        let forgets = self.mistake == Mistake::FullJournalForgets && !has_place;
+        if number(result) != 0 || !(has_place || forgets) {
+            return self.not_kept(step, result, entries, count);
+        }
+        let changed = after != state;
+        state.copy_from_slice(&after);
+        if forgets {
+            return result;
+        }
+        entries[*count] = entry_of(self.mistake, step, result, changed);
+        *count += 1;
+        match self.mistake {
+            Mistake::KeepClearsTheRest => entries[*count..].fill([0; 4]),
+            Mistake::KeepAnswersNumberAlone => return 0,
+            _ => {}
+        }
+        result
+    }
+
+    fn undo_in(&mut self, form: Form, plan: &[u8], kept: Kept) -> u32 {
+        match form {
+            Form::Plain => self.undo_alike(form, plan, kept),
+            Form::Desks => desks::undo(self, plan, kept),
+        }
+    }
+
+    fn undo_alike(&mut self, form: Form, plan: &[u8], (state, entries, count): Kept) -> u32 {
+        let checked = self.check_in(form, plan);
+        let seen = match self.mistake {
+            Mistake::CountAboveIsCut => (*count).min(entries.len()),
+            Mistake::UndoTakesTheNextPlace if (1..entries.len()).contains(count) => *count + 1,
+            _ => *count,
+        };
+        let no_step_first = self.mistake == Mistake::NoStepBeforeLength && *count == 0;
+        if checked != 0 {
+            return checked;
+        }
+        if (state.len() != form.state_length(plan) && !no_step_first) || seen > entries.len() {
+            return 7;
+        }
+        if seen == 0 {
+            return 16;
+        }
+        let result = self.take_back(form, plan, state, entries[seen - 1]);
+        match (self.mistake, number(result)) {
+            (Mistake::UndoRewritesTheEntry, 0) => entries[seen - 1] = [0; 4],
+            (Mistake::CountAboveIsCut, 0) => *count = seen,
+            _ => {}
+        }
+        if number(result) == 0 || self.mistake == Mistake::RefusedUndoCounts {
+            *count -= 1;
+        }
+        result
+    }
+
+    fn record_in(
+        &mut self,
+        form: Form,
+        plan: &[u8],
+        state: &[u8],
+        marks: &mut [u8],
+        classes: &mut [u8],
+    ) -> u32 {
+        let table = self.last_table;
+        let result = match self.mistake {
+            Mistake::TableStays => form.record_by(&mut self.honest, plan, &table, state, marks, classes),
+            _ => form.record(&mut self.honest, plan, state, marks, classes),
+        };
+        if result != 0 {
+            return result;
+        }
+        let plain = form.plain(plan);
+        match self.mistake {
+            Mistake::OfferedBeforeTurnedDown => {
+                marks.iter_mut().filter(|mark| **mark == 5).for_each(|mark| *mark = 2);
+            }
+            Mistake::BlocksAreClassed => class_blocks(&plain, &tables::COMMON, marks, classes),
+            _ => self.misclass(&plain, &tables::COMMON, marks, classes),
+        }
+        result
+    }
+
+    fn record_by_in(
+        &mut self,
+        form: Form,
+        plan: &[u8],
+        table: &[u8],
+        state: &[u8],
+        marks: &mut [u8],
+        classes: &mut [u8],
+    ) -> u32 {
+        let seen = self.misread_table(table);
+        let checked = form.check(&mut self.honest, plan);
+        let result = match self.mistake {
+            Mistake::PlanBeforeTable if checked != 0 => checked,
+            _ => form.record_by(&mut self.honest, plan, &seen, state, marks, classes),
+        };
+        if result != 0 {
+            return result;
+        }
+        let plain = form.plain(plan);
+        match self.mistake {
+            Mistake::TableStays => self.last_table.copy_from_slice(&seen),
+            Mistake::TableIgnored => return form.record(&mut self.honest, plan, state, marks, classes),
+            Mistake::TableClassesBlocks => class_blocks(&plain, &seen, marks, classes),
+            _ => self.misclass(&plain, &seen, marks, classes),
+        }
+        result
     }
 }
 
@@ -807,27 +1088,23 @@ fn entry_of(mistake: Mistake, step: Step, result: u32, changed: bool) -> Entry {
 }
 
 /// What the mistake makes of the last entry before it is taken back.
-fn misread_entry(mistake: Mistake, plan: &[u8], entry: Entry) -> Entry {
+fn misread_entry(mistake: Mistake, form: Form, plan: &[u8], entry: Entry) -> Entry {
     let [code, node, site, changed] = entry;
-    let is_heard = usize::from(site) < plan.len() / 2;
+    let is_heard = form.row(plan, site.into()).is_some();
     let is_pick = u32::from(code) == PICK && u32::from(site) == HAPPENS;
     match mistake {
         Mistake::RepeatUndoClears => [code, node, site, 1],
         Mistake::MessageUndoAtTheEvent if is_heard => [code, node, HAPPENS as u8, changed],
-        Mistake::PickUndoAtTheChild if is_pick => [code, node, node, changed],
+        Mistake::PickUndoAtTheChild if is_pick => [code, node, form.seat(plan, node.into()) as u8, changed],
         Mistake::UndoOnlyIfOne => [code, node, site, u8::from(changed == 1)],
         Mistake::UndoTrustsRepeats if changed == 0 => [START as u8, 0, HAPPENS as u8, 0],
         _ => entry,
     }
 }
 
-/// Where in the state the bit of an entry stands that is taken back.
-fn place_of_entry(plan: &[u8], [code, node, site, _]: Entry) -> usize {
-    let row = match u32::from(site) {
-        HAPPENS => Tree::new(plan).site(code.into(), node.into()),
-        hearer => hearer as usize,
-    };
-    row * (plan.len() / 2) + usize::from(node)
+/// The step that was kept as an entry.
+fn step_of([code, node, site, _]: Entry) -> Step {
+    Step { code: code.into(), node: node.into(), site: site.into() }
 }
 
 /// Reads the written guard against a row.
@@ -854,9 +1131,8 @@ fn is_lone_offer(tree: &Tree, code: u32, node: u32, row: &[u8]) -> bool {
 }
 
 /// A pick by the child's own row, as if it were the child's business.
-fn pick_at_child(node: u32, row: &mut [u8], rule: u32) -> u32 {
+fn pick_at_child(node: u32, row: &mut [u8], at: u32, rule: u32) -> u32 {
     let own = &mut row[node as usize];
-    let at = node << 8;
     if *own & bit(PICK) != 0 {
         10 | at
     } else if *own & bit(OFFER) == 0 {
@@ -869,14 +1145,7 @@ fn pick_at_child(node: u32, row: &mut [u8], rule: u32) -> u32 {
 
 impl Implementation for Broken {
     fn check(&mut self, plan: &[u8]) -> u32 {
-        let honest = self.honest.check(plan);
-        match self.mistake {
-            Mistake::RefusesEveryPlan => 1,
-            Mistake::RefusesKind8 if honest != 1 && plan.iter().step_by(2).any(|&kind| kind == 8) => 2,
-            Mistake::OneLevelMore if honest == 6 && levels(plan) == 33 => 0,
-            Mistake::ParentsBeforeKinds if honest == 2 && !parents_are_right(plan) => 3,
-            _ => honest,
-        }
+        self.check_in(Form::Plain, plan)
     }
 
     fn rewrite(&mut self, plan: &[u8], out: &mut [u8]) -> u32 {
@@ -942,13 +1211,7 @@ impl Implementation for Broken {
     }
 
     fn step(&mut self, plan: &[u8], code: u32, node: u32, row: &mut [u8]) -> u32 {
-        let (code, node) = (self.cut(code), self.cut(node));
-        let nodes = plan.len() / 2;
-        let is_in_range = (1..=8).contains(&code) && (node as usize) < nodes;
-        if self.honest.check(plan) == 0 && row.len() == nodes && is_in_range {
-            return self.event(plan, code, node, row);
-        }
-        self.honest.step(plan, code, node, row)
+        self.step_in(Form::Plain, plan, code, node, row)
     }
 
     fn hear(&mut self, plan: &[u8], code: u32, node: u32, row: &mut [u8]) -> u32 {
@@ -993,31 +1256,7 @@ impl Implementation for Broken {
     }
 
     fn simulate(&mut self, plan: &[u8], code: u32, node: u32, site: u32, state: &mut [u8]) -> u32 {
-        let (code, node) = (self.cut(code), self.cut(node));
-        let nodes = plan.len() / 2;
-        let is_valid = self.honest.check(plan) == 0 && state.len() == nodes * nodes;
-        if !is_valid || (node as usize) >= nodes || !(1..=8).contains(&code) {
-            return self.honest.simulate(plan, code, node, site, state);
-        }
-        if site != HAPPENS {
-            let result = self.honest.simulate(plan, code, node, site, state);
-            return self.message(plan, [code, node, site], state, result);
-        }
-        let at_child = self.mistake == Mistake::PickAtTheChild;
-        let own = if at_child { node as usize } else { Tree::new(plan).site(code, node as usize) };
-        let known = match self.mistake {
-            Mistake::SimulationSeesAllRows => all_heard(state, nodes),
-            _ => vec![0; nodes],
-        };
-        let row = &mut state[own * nodes..][..nodes];
-        let mut seen: Vec<u8> = row.iter().zip(&known).map(|(own, known)| own | known).collect();
-        let result = self.event(plan, code, node, &mut seen);
-        row[node as usize] |= if number(result) == 0 { seen[node as usize] & bit(code) } else { 0 };
-        let root_starts = number(result) == 0 && code == START && node == 0;
-        if root_starts && self.mistake == Mistake::AllEndedAtTheRootsStart {
-            (0..nodes).for_each(|node| state[node * nodes + node] |= bit(COMMIT));
-        }
-        result
+        self.simulate_in(Form::Plain, plan, Step { code, node, site }, state)
     }
 
     fn keep(
@@ -1028,56 +1267,11 @@ impl Implementation for Broken {
         entries: &mut [Entry],
         count: &mut usize,
     ) -> u32 {
-        let mut after = state.to_vec();
-        let result = self.simulate(plan, step.code, step.node, step.site, &mut after);
-        let has_place = *count < entries.len();
-        let forgets = self.mistake == Mistake::FullJournalForgets && !has_place;
-        if number(result) != 0 || !(has_place || forgets) {
-            return self.not_kept(step, result, entries, count);
-        }
-        let changed = after != state;
-        state.copy_from_slice(&after);
-        if forgets {
-            return result;
-        }
-        entries[*count] = entry_of(self.mistake, step, result, changed);
-        *count += 1;
-        match self.mistake {
-            Mistake::KeepClearsTheRest => entries[*count..].fill([0; 4]),
-            Mistake::KeepAnswersNumberAlone => return 0,
-            _ => {}
-        }
-        result
+        self.keep_in(Form::Plain, plan, step, (state, entries, count))
     }
 
     fn undo(&mut self, plan: &[u8], state: &mut [u8], entries: &mut [Entry], count: &mut usize) -> u32 {
-        let checked = self.check(plan);
-        let nodes = plan.len() / 2;
-        let seen = match self.mistake {
-            Mistake::CountAboveIsCut => (*count).min(entries.len()),
-            Mistake::UndoTakesTheNextPlace if (1..entries.len()).contains(count) => *count + 1,
-            _ => *count,
-        };
-        let no_step_first = self.mistake == Mistake::NoStepBeforeLength && *count == 0;
-        if checked != 0 {
-            return checked;
-        }
-        if (state.len() != nodes * nodes && !no_step_first) || seen > entries.len() {
-            return 7;
-        }
-        if seen == 0 {
-            return 16;
-        }
-        let result = self.take_back(plan, state, entries[seen - 1]);
-        match (self.mistake, number(result)) {
-            (Mistake::UndoRewritesTheEntry, 0) => entries[seen - 1] = [0; 4],
-            (Mistake::CountAboveIsCut, 0) => *count = seen,
-            _ => {}
-        }
-        if number(result) == 0 || self.mistake == Mistake::RefusedUndoCounts {
-            *count -= 1;
-        }
-        result
+        self.undo_in(Form::Plain, plan, (state, entries, count))
     }
 
     fn point_name(&mut self, name: &[u8], count: usize, slots: Slots) -> u32 {
@@ -1092,7 +1286,7 @@ impl Implementation for Broken {
         count: &mut usize,
         slots: Slots,
     ) -> u32 {
-        points::undo(self, plan, points::Lent { state, entries, count }, slots)
+        points::undo(self, Form::Plain, plan, (state, entries, count), slots)
     }
 
     fn point_back(
@@ -1104,26 +1298,11 @@ impl Implementation for Broken {
         count: &mut usize,
         slots: Slots,
     ) -> u32 {
-        points::back(self, plan, name, points::Lent { state, entries, count }, slots)
+        points::back(self, Form::Plain, plan, name, (state, entries, count), slots)
     }
 
     fn record(&mut self, plan: &[u8], state: &[u8], marks: &mut [u8], classes: &mut [u8]) -> u32 {
-        let table = self.last_table;
-        let result = match self.mistake {
-            Mistake::TableStays => self.honest.record_by(plan, &table, state, marks, classes),
-            _ => self.honest.record(plan, state, marks, classes),
-        };
-        if result != 0 {
-            return result;
-        }
-        match self.mistake {
-            Mistake::OfferedBeforeTurnedDown => {
-                marks.iter_mut().filter(|mark| **mark == 5).for_each(|mark| *mark = 2);
-            }
-            Mistake::BlocksAreClassed => class_blocks(plan, &tables::COMMON, marks, classes),
-            _ => self.misclass(plan, &tables::COMMON, marks, classes),
-        }
-        result
+        self.record_in(Form::Plain, plan, state, marks, classes)
     }
 
     fn record_by(
@@ -1134,21 +1313,72 @@ impl Implementation for Broken {
         marks: &mut [u8],
         classes: &mut [u8],
     ) -> u32 {
-        let seen = self.misread_table(table);
-        let result = match self.mistake {
-            Mistake::PlanBeforeTable if self.honest.check(plan) != 0 => self.honest.check(plan),
-            _ => self.honest.record_by(plan, &seen, state, marks, classes),
-        };
-        if result != 0 {
-            return result;
-        }
-        match self.mistake {
-            Mistake::TableStays => self.last_table.copy_from_slice(&seen),
-            Mistake::TableIgnored => return self.honest.record(plan, state, marks, classes),
-            Mistake::TableClassesBlocks => class_blocks(plan, &seen, marks, classes),
-            _ => self.misclass(plan, &seen, marks, classes),
-        }
-        result
+        self.record_by_in(Form::Plain, plan, table, state, marks, classes)
+    }
+
+    fn desk_check(&mut self, plan: &[u8]) -> u32 {
+        desks::check(self, plan)
+    }
+
+    fn desk_step(&mut self, plan: &[u8], code: u32, node: u32, row: &mut [u8]) -> u32 {
+        desks::step(self, plan, code, node, row)
+    }
+
+    fn desk_simulate(&mut self, plan: &[u8], code: u32, node: u32, desk: u32, state: &mut [u8]) -> u32 {
+        self.simulate_in(Form::Desks, plan, Step { code, node, site: desk }, state)
+    }
+
+    fn desk_keep(
+        &mut self,
+        plan: &[u8],
+        step: Step,
+        state: &mut [u8],
+        entries: &mut [Entry],
+        count: &mut usize,
+    ) -> u32 {
+        desks::keep(self, plan, step, (state, entries, count))
+    }
+
+    fn desk_undo(&mut self, plan: &[u8], state: &mut [u8], entries: &mut [Entry], count: &mut usize) -> u32 {
+        self.undo_in(Form::Desks, plan, (state, entries, count))
+    }
+
+    fn desk_point_undo(
+        &mut self,
+        plan: &[u8],
+        state: &mut [u8],
+        entries: &mut [Entry],
+        count: &mut usize,
+        slots: Slots,
+    ) -> u32 {
+        points::undo(self, Form::Desks, plan, (state, entries, count), slots)
+    }
+
+    fn desk_point_back(
+        &mut self,
+        plan: &[u8],
+        name: &[u8],
+        state: &mut [u8],
+        entries: &mut [Entry],
+        count: &mut usize,
+        slots: Slots,
+    ) -> u32 {
+        points::back(self, Form::Desks, plan, name, (state, entries, count), slots)
+    }
+
+    fn desk_record(&mut self, plan: &[u8], state: &[u8], marks: &mut [u8], classes: &mut [u8]) -> u32 {
+        desks::record(self, plan, state, marks, classes)
+    }
+
+    fn desk_record_by(
+        &mut self,
+        plan: &[u8],
+        table: &[u8],
+        state: &[u8],
+        marks: &mut [u8],
+        classes: &mut [u8],
+    ) -> u32 {
+        desks::record_by(self, plan, table, state, marks, classes)
     }
 
     fn check_table(&mut self, table: &[u8]) -> u32 {

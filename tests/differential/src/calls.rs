@@ -3,14 +3,17 @@
 
 use crate::codes::*;
 use crate::driver::{STRANGE, Step, Tree};
+use crate::form::{Form, HIGHEST_DESK};
 use crate::implementation::{Entry, Implementation};
 use crate::plans;
 use crate::random::Random;
 use crate::tables;
 use crate::trial::Trial;
 
+mod desks;
 mod points;
 
+pub use desks::{damaged_plans_with_desks, lengths_with_desks, own_desks};
 pub use points::points;
 
 /// More than the longest guard.
@@ -28,7 +31,7 @@ pub fn damaged_plans<S: Implementation, R: Implementation>(trial: &mut Trial<S, 
         let site = if random.chance(50) { HAPPENS } else { any_node(random, nodes) };
         let (one, two) = (length(random, nodes), length(random, nodes));
         let (one, two) = (random.bytes(one), random.bytes(two));
-        let state = state_bytes(random, nodes);
+        let state = state_bytes(random, Form::Plain, &plan);
         trial.check_depths(&plan, &one);
         trial.guard(&plan, code, node, &one);
         trial.rule(&plan, code, node);
@@ -36,7 +39,8 @@ pub fn damaged_plans<S: Implementation, R: Implementation>(trial: &mut Trial<S, 
         trial.hear(&plan, code, node, &one);
         trial.pass(&plan, &one, &two);
         trial.simulate(&plan, code, node, site, &state);
-        let (entries, count) = any_entries(random, |random| event(random, nodes), nodes);
+        let (entries, count) =
+            any_entries(random, |random| event(random, nodes), |random| any_node(random, nodes));
         trial.keep(&plan, Step { code, node, site }, &state, &entries, count);
         trial.undo(&plan, &state, &entries, count);
         trial.record(&plan, &state, &one, &two);
@@ -94,8 +98,9 @@ pub fn guards<S: Implementation, R: Implementation>(
 
 /// A site's step and hear on any row.
 pub fn rows<S: Implementation, R: Implementation>(trial: &mut Trial<S, R>, random: &mut Random, plan: &[u8]) {
-    let nodes = plan.len() / 2;
-    let tree = Tree::new(plan);
+    let plain = trial.form.plain(plan);
+    let nodes = plain.len() / 2;
+    let tree = Tree::new(&plain);
     for _ in 0..100 {
         let (code, node) = apt_event(random, &tree);
         let mut row = heard(random, nodes);
@@ -104,7 +109,7 @@ pub fn rows<S: Implementation, R: Implementation>(trial: &mut Trial<S, R>, rando
         }
         trial.step(plan, code, node, &row);
         if random.chance(25) {
-            trial.hear(plan, code, node, &row);
+            trial.hear(&plain, code, node, &row);
         }
     }
 }
@@ -186,13 +191,14 @@ pub fn states<S: Implementation, R: Implementation>(
     random: &mut Random,
     plan: &[u8],
 ) {
-    let nodes = plan.len() / 2;
-    let tree = Tree::new(plan);
+    let form = trial.form;
+    let nodes = form.nodes(plan);
+    let tree = Tree::new(&form.plain(plan));
     for _ in 0..20 {
-        let state = heard(random, nodes * nodes);
+        let state = heard(random, form.state_length(plan));
         for _ in 0..4 {
             let (code, node) = apt_event(random, &tree);
-            let site = if random.chance(50) { HAPPENS } else { any_node(random, nodes) };
+            let site = if random.chance(50) { HAPPENS } else { any_seat(random, form, plan) };
             trial.simulate(plan, code, node, site, &state);
         }
         let (marks, classes) = (random.bytes(nodes), random.bytes(nodes));
@@ -211,14 +217,15 @@ pub fn journals<S: Implementation, R: Implementation>(
     random: &mut Random,
     plan: &[u8],
 ) {
-    let nodes = plan.len() / 2;
-    let tree = Tree::new(plan);
+    let form = trial.form;
+    let tree = Tree::new(&form.plain(plan));
     for _ in 0..20 {
-        let state = heard(random, nodes * nodes);
+        let state = heard(random, form.state_length(plan));
         for _ in 0..3 {
-            let (entries, count) = any_entries(random, |random| apt_event(random, &tree), nodes);
+            let (entries, count) =
+                any_entries(random, |random| apt_event(random, &tree), |random| any_seat(random, form, plan));
             let (code, node) = apt_event(random, &tree);
-            let site = if random.chance(50) { HAPPENS } else { any_node(random, nodes) };
+            let site = if random.chance(50) { HAPPENS } else { any_seat(random, form, plan) };
             trial.keep(plan, Step { code, node, site }, &state, &entries, count);
             trial.undo(plan, &state, &entries, count);
         }
@@ -237,13 +244,14 @@ pub fn lengths<S: Implementation, R: Implementation>(
         let site = if random.chance(50) { HAPPENS } else { any_node(random, nodes) };
         let (one, two) = (length(random, nodes), length(random, nodes));
         let (one, two) = (random.bytes(one), random.bytes(two));
-        let state = state_bytes(random, nodes);
+        let state = state_bytes(random, Form::Plain, plan);
         trial.check_depths(plan, &one);
         trial.step(plan, code, node, &one);
         trial.hear(plan, code, node, &one);
         trial.pass(plan, &one, &two);
         trial.simulate(plan, code, node, site, &state);
-        let (entries, count) = any_entries(random, |random| event(random, nodes), nodes);
+        let (entries, count) =
+            any_entries(random, |random| event(random, nodes), |random| any_node(random, nodes));
         trial.keep(plan, Step { code, node, site }, &state, &entries, count);
         trial.undo(plan, &state, &entries, count);
         trial.record(plan, &state, &one, &two);
@@ -285,16 +293,37 @@ fn any_node(random: &mut Random, nodes: usize) -> u32 {
     }
 }
 
-/// A few entries of these events, or of anything, and any count.
+/// A site or desk, mostly one that exists.
+fn any_seat(random: &mut Random, form: Form, plan: &[u8]) -> u32 {
+    let nodes = form.nodes(plan);
+    if form == Form::Plain {
+        return any_node(random, nodes);
+    }
+    let used = if nodes == 0 { 0 } else { form.seat(plan, random.below(nodes)) };
+    if random.chance(90) {
+        return used;
+    }
+    match random.below(8) {
+        0 => random.below(usize::from(HIGHEST_DESK) + 1) as u32,
+        1 => random.below(nodes + 1) as u32,
+        2 => random.between(usize::from(HIGHEST_DESK) + 1, 0xfe) as u32,
+        3 => (used + 1) & 0xff,
+        4 => used | 0x100,
+        5 => used | 1 << 31,
+        _ => random.one_of(&STRANGE),
+    }
+}
+
+/// A few entries of these events and sites, or of anything, and any count.
 fn any_entries(
     random: &mut Random,
     mut event: impl FnMut(&mut Random) -> (u32, u32),
-    nodes: usize,
+    mut seat: impl FnMut(&mut Random) -> u32,
 ) -> (Vec<Entry>, usize) {
     let length = random.one_of(&[0, 1, 2, 3, 9]);
     let mut entry = |random: &mut Random| {
         let (code, node) = event(random);
-        let site = if random.chance(50) { HAPPENS } else { any_node(random, nodes) };
+        let site = if random.chance(50) { HAPPENS } else { seat(random) };
         let changed = random.one_of(&[0, 0, 1, 1, 1, 2, 0x80, 0xff]);
         [code as u8, node as u8, site as u8, changed]
     };
@@ -331,8 +360,9 @@ fn length(random: &mut Random, right: usize) -> usize {
 }
 
 /// Bytes for a state; often of the right length.
-fn state_bytes(random: &mut Random, nodes: usize) -> Vec<u8> {
-    let right = nodes.min(200) * nodes.min(200);
+fn state_bytes(random: &mut Random, form: Form, plan: &[u8]) -> Vec<u8> {
+    let nodes = form.nodes(plan);
+    let right = form.rows(plan).min(200) * nodes.min(200);
     let length = match random.below(8) {
         0 => 0,
         1 => nodes,

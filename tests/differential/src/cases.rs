@@ -7,6 +7,7 @@ use crate::implementation::Implementation;
 use crate::tables::COMMON;
 use crate::trial::{Trial, hex};
 
+mod desks;
 mod points;
 
 /// Plan P of document 01.
@@ -25,12 +26,13 @@ pub fn run<S: Implementation, R: Implementation>(trial: &mut Trial<S, R>) {
     moves(trial);
     take_backs(trial);
     points::run(trial);
+    desks::run(trial);
 }
 
-/// Version 1.2.0.
+/// Version 1.3.0.
 fn version<S: Implementation, R: Implementation>(trial: &mut Trial<S, R>) {
     let version = trial.version();
-    trial.tally.compare(version == 0x01_0200, || format!("the version is {version:08x}"));
+    trial.tally.compare(version == 0x01_0300, || format!("the version is {version:08x}"));
 }
 
 /// A guard: the event, its rule, and what must be written.

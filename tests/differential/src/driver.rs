@@ -3,12 +3,14 @@
 //! messages and nonsense.
 
 use crate::codes::*;
+use crate::form::{Form, Seats};
 use crate::random::Random;
 
 /// Numbers that are no code; and no node or site, or only in a large plan.
 pub const STRANGE: [u32; 12] = [0, 9, 10, 160, 161, 255, 256, 257, 0x107, 0xffff, 0x8000_0001, u32::MAX];
 
-/// A step: an event if the site is 255, else a message to the site.
+/// A step: an event if the site is 255, else a message to the site, or to the
+/// desk of this number.
 #[derive(Clone, Copy, Debug, PartialEq, Eq)]
 pub struct Step {
     /// The event's code.
@@ -48,28 +50,44 @@ impl Temper {
 pub struct Driver {
     nodes: usize,
     tree: Tree,
+    seats: Seats,
     temper: Temper,
     /// Events worth trying, each at most once.
     likely: Vec<(u32, u32)>,
     listed: Vec<bool>,
-    /// Messages to sites near the event, which may wait for them.
+    /// Messages to where somebody near the event is, who may wait for them.
     near: Vec<Step>,
     /// Messages to all others.
     far: Vec<Step>,
+    /// Which messages were heard.
+    told: Vec<bool>,
     /// Events that passed, in order.
     passed: Vec<(u32, u32)>,
 }
 
 impl Driver {
     /// A simulation of a valid plan, nothing done yet.
-    pub fn new(plan: &[u8], temper: Temper) -> Driver {
-        let nodes = plan.len() / 2;
-        let listed = vec![false; 9 * nodes];
-        let tree = Tree::new(plan);
-        let mut driver =
-            Driver { nodes, tree, temper, likely: vec![], listed, near: vec![], far: vec![], passed: vec![] };
+    pub fn new(form: Form, plan: &[u8], temper: Temper) -> Driver {
+        let nodes = form.nodes(plan);
+        let mut driver = Driver {
+            nodes,
+            tree: Tree::new(&form.plain(plan)),
+            seats: Seats::new(form, plan),
+            temper,
+            likely: vec![],
+            listed: vec![false; 9 * nodes],
+            near: vec![],
+            far: vec![],
+            told: vec![false; 9 * nodes * form.rows(plan)],
+            passed: vec![],
+        };
         driver.list(START, 0);
         driver
+    }
+
+    /// Who is where.
+    pub fn seats(&self) -> &Seats {
+        &self.seats
     }
 
     /// Events that passed, in order.
@@ -110,15 +128,25 @@ impl Driver {
         }
         if step.site == HAPPENS {
             self.event_passed(step, random);
-        } else if self.tree.is_near(step.node as usize, step.site as usize) {
-            self.list_events_at(step.site, random);
+        } else if !self.tell(step, true) {
+            self.list_events_at(step.site, step.node, random);
         }
+    }
+
+    /// Notes whether a message has been heard; answers whether it had been.
+    fn tell(&mut self, Step { code, node, site }: Step, is_told: bool) -> bool {
+        let own = self.seats.of(self.tree.site(code, node as usize));
+        let event = code as usize * self.nodes + node as usize;
+        let place = self.seats.row(site).map(|row| event * self.seats.numbers().len() + row);
+        let before = place.and_then(|place| self.told.get_mut(place));
+        site == own || before.is_some_and(|told| std::mem::replace(told, is_told))
     }
 
     /// Learns that the last step that passed was taken back: it is to be tried
     /// again, and nobody is to be told of an event that it was.
     pub fn forget(&mut self, step: Step) {
         if step.site != HAPPENS {
+            self.tell(step, false);
             return self.near.push(step);
         }
         let (code, node) = (step.code, step.node);
@@ -135,17 +163,17 @@ impl Driver {
 
     fn event_passed(&mut self, step: Step, random: &mut Random) {
         let (code, node) = (step.code, step.node);
-        let own = self.tree.site(code, node as usize) as u32;
+        let own = self.seats.of(self.tree.site(code, node as usize));
         self.passed.push((code, node));
-        for site in (0..self.nodes as u32).filter(|&site| site != own) {
+        for (site, nodes) in self.seats.iter().filter(|&(site, _)| site != own) {
             let message = Step { code, node, site };
-            if self.tree.is_near(node as usize, site as usize) {
+            if nodes.iter().any(|&other| self.tree.is_near(node as usize, other)) {
                 self.near.push(message);
             } else {
                 self.far.push(message);
             }
         }
-        self.list_events_at(own, random);
+        self.list_events_at(own, node, random);
     }
 
     fn likely_event(&mut self, random: &mut Random) -> Option<Step> {
@@ -154,9 +182,20 @@ impl Driver {
         Some(Step { code, node, site: HAPPENS })
     }
 
-    /// Everything that can happen at a site is worth trying now.
-    fn list_events_at(&mut self, site: u32, random: &mut Random) {
-        let node = site as usize;
+    /// Something was heard there of a node: what can happen to those near it is
+    /// worth trying now.
+    fn list_events_at(&mut self, seat: u32, of: u32, random: &mut Random) {
+        for place in 0..self.seats.nodes_at(seat).len() {
+            let node = self.seats.nodes_at(seat)[place];
+            if self.tree.is_near(of as usize, node) {
+                self.list_events_of(node, random);
+            }
+        }
+    }
+
+    /// Everything that can happen at the site of a node.
+    fn list_events_of(&mut self, node: usize, random: &mut Random) {
+        let site = node as u32;
         self.list(START, site);
         self.list(COMMIT, site);
         if self.tree.kind(node) != TASK || random.chance(self.temper.failing) {
@@ -188,7 +227,7 @@ impl Driver {
     /// A step that leads nowhere.
     fn noise(&self, random: &mut Random) -> Step {
         let node = random.below(self.nodes) as u32;
-        let site = random.below(self.nodes) as u32;
+        let site = random.one_of(self.seats.numbers());
         let code = random.between(1, 8) as u32;
         match random.below(4) {
             0 if !self.passed.is_empty() => {

@@ -1,24 +1,30 @@
-//! A job of hosts: every site has a row of its own, an event is a step on the
-//! row of its site, and a message is heard only of what has happened. Rows and
-//! results must be those of the simulation, in whatever order all this comes.
-//! Since a host has nothing but its row, they must also be the same again in
-//! any other order that each host could not tell from the first.
+//! A job of hosts: every site, or every desk, has a row of its own, an event is
+//! a step on the row where it is decided, and a message is heard only of what
+//! has happened. Rows and results must be those of the simulation, in whatever
+//! order all this comes. Since a host has nothing but its row, they must also be
+//! the same again in any other order that each host could not tell from the
+//! first.
 
 use crate::codes::*;
 use crate::driver::{Driver, Step, Temper, Tree};
+use crate::form::{Form, Seats};
 use crate::implementation::Implementation;
 use crate::lent::Pair;
 use crate::random::Random;
 use crate::trial::{Trial, hex};
+use std::borrow::Cow;
 use std::collections::{HashSet, VecDeque};
 
 /// The hosts of a plan, beside a simulation of the same steps.
 struct Hosts<'a> {
     plan: &'a [u8],
+    /// The plan without desks, with which a host hears.
+    plain: Cow<'a, [u8]>,
     tree: Tree,
+    seats: Seats,
     rows: Vec<Pair>,
     state: Pair,
-    /// What has happened: the events that passed at their sites.
+    /// What has happened: the events that passed.
     happened: HashSet<(u32, u32)>,
     /// What each host did, in its own order, with the results.
     done: Vec<VecDeque<(Step, u32)>>,
@@ -26,8 +32,8 @@ struct Hosts<'a> {
 
 /// Runs a job of hosts, usually to the end.
 pub fn run<S: Implementation, R: Implementation>(trial: &mut Trial<S, R>, random: &mut Random, plan: &[u8]) {
-    let mut driver = Driver::new(plan, Temper::any(random));
-    let mut hosts = Hosts::new(plan);
+    let mut driver = Driver::new(trial.form, plan, Temper::any(random));
+    let mut hosts = Hosts::new(trial.form, plan);
     let limit = if random.chance(20) { random.below(200) } else { usize::MAX };
     for _ in 0..limit {
         let Some(step) = driver.propose(random) else {
@@ -51,16 +57,24 @@ fn fresh(length: usize) -> Pair {
 }
 
 impl Hosts<'_> {
-    fn new(plan: &[u8]) -> Hosts<'_> {
-        let nodes = plan.len() / 2;
+    fn new(form: Form, plan: &[u8]) -> Hosts<'_> {
+        let plain = form.plain(plan);
+        let seats = Seats::new(form, plan);
+        let hosts = seats.numbers().len();
         Hosts {
             plan,
-            tree: Tree::new(plan),
-            rows: (0..nodes).map(|_| fresh(nodes)).collect(),
-            state: fresh(nodes * nodes),
+            tree: Tree::new(&plain),
+            plain,
+            seats,
+            rows: (0..hosts).map(|_| fresh(form.nodes(plan))).collect(),
+            state: fresh(form.state_length(plan)),
             happened: HashSet::new(),
-            done: vec![VecDeque::new(); nodes],
+            done: vec![VecDeque::new(); hosts],
         }
+    }
+
+    fn nodes(&self) -> usize {
+        self.tree.children.len()
     }
 
     /// A step at the hosts and in the simulation; answers whether it passed,
@@ -75,7 +89,7 @@ impl Hosts<'_> {
         let by_hosts = match row.and_then(|row| self.rows.get_mut(row)) {
             Some(row) if site == HAPPENS => Some(trial.step_on(self.plan, code, node, row)),
             Some(row) if self.happened.contains(&(code, node)) => {
-                Some(trial.hear_on(self.plan, code, node, row))
+                Some(trial.hear_on(&self.plain, code, node, row))
             }
             _ => None,
         };
@@ -97,17 +111,17 @@ impl Hosts<'_> {
     fn row_of(&self, step: Step) -> Option<usize> {
         let node = step.node as usize;
         match step.site {
-            HAPPENS if node < self.rows.len() => Some(self.tree.site(step.code, node)),
+            HAPPENS if node < self.nodes() => self.seats.row(self.seats.of(self.tree.site(step.code, node))),
             HAPPENS => Some(0),
-            hearer => usize::try_from(hearer).ok().filter(|&hearer| hearer < self.rows.len()),
+            hearer => self.seats.row(hearer),
         }
     }
 
     /// What a simulation says of a message that no host would send: to nobody,
     /// of no event, or of one that hasn't happened.
     fn unsent(&self, step: Step) -> u32 {
-        let nodes = self.rows.len() as u32;
-        if step.site >= nodes || step.node >= nodes || !(1..=8).contains(&step.code) {
+        let is_nobody = self.seats.row(step.site).is_none();
+        if is_nobody || step.node as usize >= self.nodes() || !(1..=8).contains(&step.code) {
             8
         } else if !self.tree.applies(step.code, step.node as usize) {
             9
@@ -177,10 +191,10 @@ impl Hosts<'_> {
         next.is_some_and(|(step, _)| step.site == HAPPENS || self.happened.contains(&(step.code, step.node)))
     }
 
-    /// Whether a host's row is its site's row of the simulation's state, on
-    /// the subject's side.
+    /// Whether a host's row is the one that the simulation's state has for it,
+    /// on the subject's side.
     fn has_same_row(&self, row: usize) -> bool {
-        let nodes = self.rows.len();
+        let nodes = self.nodes();
         self.rows[row].subject.is_still(&self.state.subject.bytes()[row * nodes..][..nodes])
     }
 }

@@ -92,6 +92,55 @@ pub trait Implementation {
         marks: &mut [u8],
         classes: &mut [u8],
     ) -> u32;
+    /// Checks a plan with desks.
+    fn desk_check(&mut self, plan: &[u8]) -> u32;
+    /// An event at its desk.
+    fn desk_step(&mut self, plan: &[u8], code: u32, node: u32, row: &mut [u8]) -> u32;
+    /// A step of a simulation with desks.
+    fn desk_simulate(&mut self, plan: &[u8], code: u32, node: u32, desk: u32, state: &mut [u8]) -> u32;
+    /// The same, kept as an entry.
+    fn desk_keep(
+        &mut self,
+        plan: &[u8],
+        step: Step,
+        state: &mut [u8],
+        entries: &mut [Entry],
+        count: &mut usize,
+    ) -> u32;
+    /// Takes the last kept step back, in a plan with desks. The entries stay, as
+    /// for `undo`.
+    fn desk_undo(&mut self, plan: &[u8], state: &mut [u8], entries: &mut [Entry], count: &mut usize) -> u32;
+    /// The same, and drops points.
+    fn desk_point_undo(
+        &mut self,
+        plan: &[u8],
+        state: &mut [u8],
+        entries: &mut [Entry],
+        count: &mut usize,
+        slots: Slots,
+    ) -> u32;
+    /// Goes back to the point of a name, in a plan with desks. The entries stay,
+    /// as for `undo`.
+    fn desk_point_back(
+        &mut self,
+        plan: &[u8],
+        name: &[u8],
+        state: &mut [u8],
+        entries: &mut [Entry],
+        count: &mut usize,
+        slots: Slots,
+    ) -> u32;
+    /// The end record, in a plan with desks.
+    fn desk_record(&mut self, plan: &[u8], state: &[u8], marks: &mut [u8], classes: &mut [u8]) -> u32;
+    /// The same by a table of classes that is handed in.
+    fn desk_record_by(
+        &mut self,
+        plan: &[u8],
+        table: &[u8],
+        state: &[u8],
+        marks: &mut [u8],
+        classes: &mut [u8],
+    ) -> u32;
     /// A simulation from text.
     fn rehearse(&mut self, text: &[u8], out: &mut [u8]) -> u32;
     /// The version.
@@ -214,6 +263,71 @@ impl Implementation for Reference {
         classes: &mut [u8],
     ) -> u32 {
         exported::pass_record(plan, table, answers, marks, classes)
+    }
+
+    fn desk_check(&mut self, plan: &[u8]) -> u32 {
+        exported::desk_check(plan)
+    }
+
+    fn desk_step(&mut self, plan: &[u8], code: u32, node: u32, row: &mut [u8]) -> u32 {
+        exported::desk_step(plan, code, node, row)
+    }
+
+    fn desk_simulate(&mut self, plan: &[u8], code: u32, node: u32, desk: u32, state: &mut [u8]) -> u32 {
+        exported::desk_simulate(plan, code, node, desk, state)
+    }
+
+    fn desk_keep(
+        &mut self,
+        plan: &[u8],
+        step: Step,
+        state: &mut [u8],
+        entries: &mut [Entry],
+        count: &mut usize,
+    ) -> u32 {
+        exported::desk_keep(plan, step.code, step.node, step.site, state, entries, count)
+    }
+
+    fn desk_undo(&mut self, plan: &[u8], state: &mut [u8], entries: &mut [Entry], count: &mut usize) -> u32 {
+        exported::desk_undo(plan, state, entries, count)
+    }
+
+    fn desk_point_undo(
+        &mut self,
+        plan: &[u8],
+        state: &mut [u8],
+        entries: &mut [Entry],
+        count: &mut usize,
+        slots: Slots,
+    ) -> u32 {
+        exported::desk_point_undo(plan, state, entries, count, slots.names, slots.places)
+    }
+
+    fn desk_point_back(
+        &mut self,
+        plan: &[u8],
+        name: &[u8],
+        state: &mut [u8],
+        entries: &mut [Entry],
+        count: &mut usize,
+        slots: Slots,
+    ) -> u32 {
+        exported::desk_point_back(plan, name, state, entries, count, slots.names, slots.places)
+    }
+
+    fn desk_record(&mut self, plan: &[u8], state: &[u8], marks: &mut [u8], classes: &mut [u8]) -> u32 {
+        exported::desk_record(plan, state, marks, classes)
+    }
+
+    fn desk_record_by(
+        &mut self,
+        plan: &[u8],
+        table: &[u8],
+        state: &[u8],
+        marks: &mut [u8],
+        classes: &mut [u8],
+    ) -> u32 {
+        exported::desk_record_by(plan, table, state, marks, classes)
     }
 
     fn rehearse(&mut self, text: &[u8], out: &mut [u8]) -> u32 {

@@ -1,5 +1,6 @@
 //! A whole simulation, with the central rule in lockstep: what passes must be
-//! a run of it, and at the end the pass must come to the same record.
+//! a run of it, and at the end the pass must come to the same record. Where all
+//! are at one desk, everybody knows everything at any time.
 
 use crate::codes::*;
 use crate::driver::{Driver, Step, Temper, Tree};
@@ -8,6 +9,7 @@ use crate::lent::Pair;
 use crate::random::Random;
 use crate::tables;
 use crate::trial::{Trial, hex};
+use std::borrow::Cow;
 
 /// A simulation stops where the sides part: nothing after it would tell more.
 struct Parted;
@@ -28,6 +30,8 @@ struct Job<'a, S, R> {
     trial: &'a mut Trial<S, R>,
     random: &'a mut Random,
     plan: &'a [u8],
+    /// The plan without desks, for the calls that take no others.
+    plain: Cow<'a, [u8]>,
     nodes: usize,
     tree: Tree,
     driver: Driver,
@@ -44,12 +48,15 @@ impl<'a, S: Implementation, R: Implementation> Job<'a, S, R> {
         plan: &'a [u8],
         temper: Temper,
     ) -> Job<'a, S, R> {
-        let nodes = plan.len() / 2;
+        let form = trial.form;
+        let nodes = form.nodes(plan);
         let mut state = Pair::default();
-        state.load(&vec![0; nodes * nodes]);
-        let tree = Tree::new(plan);
-        let driver = Driver::new(plan, temper);
-        Job { trial, random, plan, nodes, tree, driver, state, marks: vec![0; nodes], notes: vec![0; nodes] }
+        state.load(&vec![0; form.state_length(plan)]);
+        let plain = form.plain(plan);
+        let tree = Tree::new(&plain);
+        let driver = Driver::new(form, plan, temper);
+        let (marks, notes) = (vec![0; nodes], vec![0; nodes]);
+        Job { trial, random, plan, plain, nodes, tree, driver, state, marks, notes }
     }
 
     /// Goes on until the job is over, the sides part or the limit of steps is
@@ -72,10 +79,12 @@ impl<'a, S: Implementation, R: Implementation> Job<'a, S, R> {
     fn step(&mut self, step: Step) -> Result<bool, Parted> {
         let Step { code, node, site } = step;
         let alone = self.sometimes_alone(step);
+        let allowed = self.allowed_at_one_desk(step);
         let (result, same) = self.trial.simulate_on(self.plan, code, node, site, &mut self.state);
         self.require(same)?;
         self.compare_with_site(step, alone, result)?;
         let passed = number(result) == 0;
+        self.compare_with_rule(step, allowed, passed)?;
         self.driver.heed(step, passed, self.random);
         if passed && site == HAPPENS {
             self.trial.tally.jobs.events += 1;
@@ -96,9 +105,34 @@ impl<'a, S: Implementation, R: Implementation> Job<'a, S, R> {
             return None;
         }
         let node = step.node as usize;
-        let site = if node < self.nodes { self.tree.site(step.code, node) } else { 0 };
-        let row = self.state.subject.bytes()[site * self.nodes..][..self.nodes].to_vec();
+        let seats = self.driver.seats();
+        let own = if node < self.nodes { seats.row(seats.of(self.tree.site(step.code, node))) } else { None };
+        let row = self.state.subject.bytes()[own.unwrap_or(0) * self.nodes..][..self.nodes].to_vec();
         Some(self.trial.step(self.plan, step.code, step.node, &row))
+    }
+
+    /// What the central rule says of an event where all are at one desk, so
+    /// that it must pass just if this allows it.
+    fn allowed_at_one_desk(&mut self, step: Step) -> Option<bool> {
+        let is_alone = self.driver.seats().numbers().len() == 1;
+        let is_event = step.site == HAPPENS && (1..=8).contains(&step.code);
+        let node = step.node as usize;
+        if !is_alone || !is_event || node >= self.nodes || !self.tree.applies(step.code, node) {
+            return None;
+        }
+        self.trial.tally.jobs.at_one_desk += 1;
+        Some(self.central(step.code, step.node, false))
+    }
+
+    /// Where the central rule was asked, an event passes just if it allows it.
+    fn compare_with_rule(&mut self, step: Step, allowed: Option<bool>, passed: bool) -> Result<(), Parted> {
+        let Some(allowed) = allowed else {
+            return Ok(());
+        };
+        let same = self.trial.tally.compare(allowed == passed, || {
+            format!("allowed {allowed}, passed {passed} where all is known: plan {} {step:?}", hex(self.plan))
+        });
+        self.require(same)
     }
 
     /// A simulation's event comes out as it does at the site alone.
@@ -131,7 +165,7 @@ impl<'a, S: Implementation, R: Implementation> Job<'a, S, R> {
 
     /// Asks the central rule, and advances the view if told so.
     fn central(&mut self, code: u32, node: u32, advance: bool) -> bool {
-        let (result, marks, notes) = self.trial.central(self.plan, code, node, &self.marks, &self.notes);
+        let (result, marks, notes) = self.trial.central(&self.plain, code, node, &self.marks, &self.notes);
         if advance {
             self.marks.copy_from_slice(marks);
             self.notes.copy_from_slice(notes);
@@ -177,12 +211,9 @@ impl<'a, S: Implementation, R: Implementation> Job<'a, S, R> {
 
     fn try_event(&mut self, code: u32, node: u32) -> Result<bool, Parted> {
         let allowed = self.central(code, node, false);
-        let passed = self.step(Step { code, node, site: HAPPENS })?;
-        let same = self.trial.tally.compare(allowed == passed, || {
-            let plan = hex(self.plan);
-            format!("allowed {allowed}, passed {passed}: plan {plan} code {code} node {node}, all is known")
-        });
-        self.require(same)?;
+        let step = Step { code, node, site: HAPPENS };
+        let passed = self.step(step)?;
+        self.compare_with_rule(step, Some(allowed), passed)?;
         Ok(passed)
     }
 
@@ -212,7 +243,7 @@ impl<'a, S: Implementation, R: Implementation> Job<'a, S, R> {
         let table = tables::sound(self.random);
         let own = self.trial.record_by(self.plan, &table, state, &marks, &classes).2.to_vec();
         let before = self.random.bytes(self.nodes);
-        let (result, passed) = self.trial.pass(self.plan, answers, &before);
+        let (result, passed) = self.trial.pass(&self.plain, answers, &before);
         let same_marks = number(result) == 0 && passed == marks;
         let classed = |table| tables::classes(&self.tree, table, &marks);
         let same_classes = classed(&tables::COMMON) == classes && classed(&table) == own;
@@ -230,7 +261,7 @@ impl<'a, S: Implementation, R: Implementation> Job<'a, S, R> {
     /// The record of the pass by a table, unless it is refused.
     fn pass_record(&mut self, table: &[u8], answers: &[u8]) -> Option<(Vec<u8>, Vec<u8>)> {
         let (marks, classes) = (self.random.bytes(self.nodes), self.random.bytes(self.nodes));
-        let (result, marks, classes) = self.trial.pass_record(self.plan, table, answers, &marks, &classes);
+        let (result, marks, classes) = self.trial.pass_record(&self.plain, table, answers, &marks, &classes);
         (number(result) == 0).then(|| (marks.to_vec(), classes.to_vec()))
     }
 
@@ -269,6 +300,6 @@ impl<'a, S: Implementation, R: Implementation> Job<'a, S, R> {
         let node = self.random.below(self.nodes);
         answers[node] = self.random.one_of(&[0, 1, 2, 3, 9, 255]);
         let before = self.random.bytes(self.nodes);
-        self.trial.pass(self.plan, &answers, &before);
+        self.trial.pass(&self.plain, &answers, &before);
     }
 }

@@ -8,6 +8,7 @@ use crate::implementation::{Entry, Implementation};
 use crate::lent::{Journal, Pair};
 use crate::random::Random;
 use crate::trial::{Trial, hex};
+use std::borrow::Cow;
 
 pub mod points;
 
@@ -33,6 +34,8 @@ struct Moves<'a, S, R> {
     trial: &'a mut Trial<S, R>,
     random: &'a mut Random,
     plan: &'a [u8],
+    /// The plan without desks, for the central rule.
+    plain: Cow<'a, [u8]>,
     driver: Driver,
     journal: Journal,
     /// The steps kept now, each with the state before it.
@@ -44,15 +47,16 @@ struct Moves<'a, S, R> {
 
 impl<'a, S: Implementation, R: Implementation> Moves<'a, S, R> {
     fn new(trial: &'a mut Trial<S, R>, random: &'a mut Random, plan: &'a [u8]) -> Moves<'a, S, R> {
-        let nodes = plan.len() / 2;
+        let form = trial.form;
+        let nodes = form.nodes(plan);
         let places =
             if random.chance(50) { MOST_PLACES } else { random.one_of(&[0, 1, 3, 10, 40, 5 * nodes]) };
         let entries: Vec<Entry> = (0..places).map(|_| [(); 4].map(|()| random.byte())).collect();
         let mut journal = Journal::default();
-        journal.load(&vec![0; nodes * nodes], &entries, 0);
-        let driver = Driver::new(plan, Temper::any(random));
+        journal.load(&vec![0; form.state_length(plan)], &entries, 0);
+        let driver = Driver::new(form, plan, Temper::any(random));
         let back = random.one_of(&[0, 2, 5, 10, 30]);
-        Moves { trial, random, plan, driver, journal, steps: vec![], places, back }
+        Moves { trial, random, plan, plain: form.plain(plan), driver, journal, steps: vec![], places, back }
     }
 
     /// Moves on until nothing is outstanding or the limit is reached, and looks
@@ -82,8 +86,8 @@ impl<'a, S: Implementation, R: Implementation> Moves<'a, S, R> {
             return self.driver.propose(self.random);
         }
         let (step, _) = &self.steps[self.random.below(self.steps.len())];
-        let site =
-            if step.site == HAPPENS { self.random.below(self.plan.len() / 2) as u32 } else { step.site };
+        let seats = self.driver.seats().numbers();
+        let site = if step.site == HAPPENS { self.random.one_of(seats) } else { step.site };
         Some(Step { site, ..*step })
     }
 
@@ -147,9 +151,8 @@ impl<'a, S: Implementation, R: Implementation> Moves<'a, S, R> {
     /// events are a run of the central rule, and state and marks are those at
     /// the end of the moves.
     fn replay(&mut self) -> Result<(), Parted> {
-        let nodes = self.plan.len() / 2;
-        let mut state = Pair::default();
-        state.load(&vec![0; nodes * nodes]);
+        let nodes = self.plain.len() / 2;
+        let mut state = self.fresh_state();
         let (mut marks, mut notes) = (vec![0; nodes], vec![0; nodes]);
         let mut right = true;
         for (step, _) in &self.steps {
@@ -158,7 +161,7 @@ impl<'a, S: Implementation, R: Implementation> Moves<'a, S, R> {
             self.require(same)?;
             right &= number(result) == 0;
             if site == HAPPENS {
-                let (result, after, noted) = self.trial.central(self.plan, code, node, &marks, &notes);
+                let (result, after, noted) = self.trial.central(&self.plain, code, node, &marks, &notes);
                 right &= value(result) == 1;
                 (marks, notes) = (after.to_vec(), noted.to_vec());
             }
@@ -170,6 +173,13 @@ impl<'a, S: Implementation, R: Implementation> Moves<'a, S, R> {
             format!("{} steps remain, and give something else: plan {}", self.steps.len(), hex(self.plan))
         });
         self.require(same)
+    }
+
+    /// A state as it is at the beginning.
+    fn fresh_state(&self) -> Pair {
+        let mut state = Pair::default();
+        state.load(&vec![0; self.journal.state.length()]);
+        state
     }
 
     /// Whether the entries are the steps that remain.

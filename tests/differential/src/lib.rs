@@ -11,7 +11,9 @@
 //!   [`journals`] lists of steps that are kept and taken back, also with named
 //!   points, [`texts`] simulations from text, by the call and by the program;
 //!   [`run`] puts them in turn.
-//! * [`slots`] has what the rules say of points, and names for them.
+//! * [`form`] has the two forms of plans, plain and with desks, in which most of
+//!   these are run; [`slots`] has what the rules say of points, and names for
+//!   them.
 //! * [`broken`] has copies of the reference with one mistake each, to show
 //!   that the comparison can fail.
 
@@ -22,6 +24,7 @@ pub mod calls;
 pub mod cases;
 pub mod codes;
 pub mod driver;
+pub mod form;
 pub mod hosts;
 pub mod implementation;
 pub mod job;

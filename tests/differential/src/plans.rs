@@ -1,6 +1,7 @@
-//! Plans, good and damaged.
+//! Plans, good and damaged, plain and with desks.
 
 use crate::codes::{AND, CONDITIONAL, CONTINGENCY, OR, SERIAL, TASK, WAITING_AND, XOR};
+use crate::form::HIGHEST_DESK;
 use crate::random::Random;
 
 /// The most nodes, children and levels a plan may have.
@@ -256,10 +257,97 @@ fn any_node(random: &mut Random, plan: &[u8]) -> Option<usize> {
     (nodes > 0 && nodes <= MOST_NODES).then(|| random.below(nodes))
 }
 
+/// A plan with a desk for each node: all at one, at a few, some three nodes at
+/// each, or each at one of his own. Numbers are from the whole range, or those
+/// that the nodes have too.
+pub fn with_desks(random: &mut Random, plan: &[u8]) -> Vec<u8> {
+    let nodes = plan.len() / 2;
+    let count = match random.below(8) {
+        0 => 1,
+        1 => 2,
+        2 => 3,
+        3 | 4 => nodes.div_ceil(3),
+        5 => nodes.div_ceil(2),
+        _ => nodes,
+    };
+    let numbers = if random.chance(70) { usize::from(HIGHEST_DESK) + 1 } else { nodes.max(count) };
+    let mut desks = shuffled(random, numbers);
+    desks.truncate(count);
+    if random.chance(20) {
+        desks[0] = random.one_of(&[0, 0x3f, 0x40, 0x7f, 0x80, HIGHEST_DESK]);
+    }
+    let own_each = desks.len() == nodes && random.chance(80);
+    let of_node =
+        |node: usize, random: &mut Random| if own_each { desks[node] } else { random.one_of(&desks) };
+    let of_nodes: Vec<u8> = (0..nodes).map(|node| of_node(node, random)).collect();
+    joined(plan, &of_nodes)
+}
+
+/// A plan in which all nodes have one desk.
+pub fn at_one_desk(random: &mut Random, plan: &[u8]) -> Vec<u8> {
+    let desk = random.below(usize::from(HIGHEST_DESK) + 1) as u8;
+    joined(plan, &vec![desk; plan.len() / 2])
+}
+
+/// A plan in which every node has its own number for a desk, whatever the plan
+/// is; it has an even number of bytes.
+pub fn at_own_desks(plan: &[u8]) -> Vec<u8> {
+    let own: Vec<u8> = (0..plan.len() / 2).map(|node| node as u8).collect();
+    joined(plan, &own)
+}
+
+/// A plan with desks that has a few damages, in its plain plan, its desks or
+/// its length; now and then they cancel out.
+pub fn damaged_with_desks(random: &mut Random) -> Vec<u8> {
+    let mut plan = if random.chance(60) { damaged(random) } else { up_to(random, 12) };
+    plan.truncate(plan.len() & !1);
+    let mut plan = if plan.is_empty() { plan } else { with_desks(random, &plan) };
+    if random.chance(40) {
+        damage_desks(random, &mut plan);
+    }
+    if random.chance(15) {
+        damage_length_with_desks(random, &mut plan);
+    }
+    plan
+}
+
+fn damage_desks(random: &mut Random, plan: &mut [u8]) {
+    let nodes = plan.len() / 3;
+    for _ in 0..random.between(1, 3).min(nodes) {
+        plan[3 * random.below(nodes) + 2] = random.one_of(&[0xa0, 0xa0, 0xa1, 0xc8, 0xfe, 0xff]);
+    }
+}
+
+fn damage_length_with_desks(random: &mut Random, plan: &mut Vec<u8>) {
+    match random.below(4) {
+        0 => plan.clear(),
+        1 => plan.extend([1, 0].iter().take(random.between(1, 2))),
+        2 => plan.truncate(plan.len().saturating_sub(random.between(1, 2))),
+        _ => {
+            let length = random.one_of(&[480, 481, 482, 483, 486, 512, 640, 960]);
+            plan.resize(length, 1);
+        }
+    }
+}
+
+/// A plan and its desks in one.
+fn joined(plan: &[u8], desks: &[u8]) -> Vec<u8> {
+    plan.chunks(2).zip(desks).flat_map(|(node, &desk)| [node[0], node[1], desk]).collect()
+}
+
+/// The numbers below a limit, in any order.
+fn shuffled(random: &mut Random, limit: usize) -> Vec<u8> {
+    let mut numbers: Vec<u8> = (0..limit).map(|number| number as u8).collect();
+    for place in (1..limit).rev() {
+        numbers.swap(place, random.below(place + 1));
+    }
+    numbers
+}
+
 #[cfg(test)]
 mod tests {
     use super::*;
-    use reference::exported::check;
+    use reference::exported::{check, desk_check};
 
     #[test]
     fn grown_plans_are_valid() {
@@ -270,6 +358,35 @@ mod tests {
             assert_eq!(check(&plan), 0, "{plan:02x?}");
         }
         assert_eq!(check(&largest(&mut random)), 0);
+    }
+
+    #[test]
+    fn desks_are_of_every_sort() {
+        let mut random = Random::new(5);
+        let (mut shared, mut apart, mut one) = (0, 0, 0);
+        for round in 0..3000 {
+            let plain = of_size(&mut random, 1 + round % MOST_NODES);
+            let plan = with_desks(&mut random, &plain);
+            assert_eq!(desk_check(&plan), 0, "{plan:02x?}");
+            let desks: std::collections::BTreeSet<u8> = plan.iter().skip(2).step_by(3).copied().collect();
+            let nodes = plain.len() / 2;
+            shared += u32::from(desks.len() > 1 && desks.len() < nodes);
+            apart += u32::from(desks.len() == nodes);
+            one += u32::from(desks.len() == 1);
+            assert_eq!(desk_check(&at_own_desks(&plain)), 0);
+            assert_eq!(desk_check(&at_one_desk(&mut random, &plain)), 0);
+        }
+        assert!(shared > 1000 && apart > 300 && one > 200, "{shared} {apart} {one}");
+    }
+
+    #[test]
+    fn damage_with_desks_meets_every_cause() {
+        let mut random = Random::new(6);
+        let mut met = [0; 23];
+        for _ in 0..3000 {
+            met[desk_check(&damaged_with_desks(&mut random)) as usize] += 1;
+        }
+        assert!((0..=6).chain([22]).all(|number| met[number] > 50), "{met:?}");
     }
 
     #[test]

@@ -12,17 +12,32 @@ use crate::{calls, cases, hosts, job, journals, texts};
 const TEXTS_IN_A_PART: usize = 64;
 /// Three times so many texts are given to the call in one part of a run.
 const TEXTS_CALLED: usize = 4;
+/// Parts come in turns of so many; what a part is about goes by its place in
+/// the turn.
+pub const TURN: u64 = 40;
 /// The part that tries every row of an only child.
 pub const ONLY_CHILD_PART: u64 = 1 << 39;
 /// The part with the cases whose answers are known.
 pub const CASES_PART: u64 = ONLY_CHILD_PART + 1;
-/// The first of the parts with hosts; every 32nd is one.
+/// The place of the parts with hosts.
 pub const HOSTS_PART: u64 = 23;
-/// The first of the parts with lists of moves; every 32nd is one.
+/// The place of the parts with lists of moves.
 pub const JOURNALS_PART: u64 = 25;
-/// The first of the parts with lists of moves that have points; every 32nd is
-/// one.
+/// The place of the parts with lists of moves that have points.
 pub const POINTS_PART: u64 = 27;
+/// The first place of the parts with desks; they end a turn.
+pub const DESKS_PART: u64 = 32;
+/// The place of the parts with calls in both forms of a plan.
+pub const OWN_DESKS_PART: u64 = 35;
+/// The place of the parts in which all are at one desk.
+pub const ONE_DESK_PART: u64 = 36;
+/// The place of the parts with simulations of plans with desks.
+pub const DESK_JOBS_PART: u64 = 37;
+/// The place of the parts with hosts and with lists of moves, for plans with
+/// desks.
+pub const DESK_MOVES_PART: u64 = 38;
+/// The place of the parts with points, for plans with desks.
+pub const DESK_POINTS_PART: u64 = 39;
 /// Where the parts with texts begin to be numbered.
 const FIRST_TEXT_PART: u64 = 1 << 40;
 
@@ -31,7 +46,8 @@ const FIRST_TEXT_PART: u64 = 1 << 40;
 pub struct Options {
     /// All random numbers come from this.
     pub seed: u64,
-    /// At least so many calls of simulate and step.
+    /// At least so many calls of simulate and step, those with desks not
+    /// counted.
     pub steps: u64,
     /// At least so many texts.
     pub texts: u64,
@@ -90,8 +106,12 @@ fn run_part<S: Implementation, R: Implementation>(trial: &mut Trial<S, R>, seed:
     if part == CASES_PART {
         return cases::run(trial);
     }
-    let plan = if part % 128 == 39 { large_plan(random) } else { any_plan(random) };
-    match part % 32 {
+    let plan = if part % (4 * TURN) == 47 { large_plan(random) } else { any_plan(random) };
+    let place = part % TURN;
+    if place >= DESKS_PART {
+        return trial.with_desks(|trial| run_desks(trial, random, place, &plan));
+    }
+    match place {
         0 | 16 => calls::damaged_plans(trial, random),
         1 | 17 => calls::guards(trial, random, &plan),
         2 | 18 => calls::rows(trial, random, &plan),
@@ -105,12 +125,73 @@ fn run_part<S: Implementation, R: Implementation>(trial: &mut Trial<S, R>, seed:
         25 => all_journals(trial, random),
         26 => calls::journals(trial, random, &plan),
         27 => all_points(trial, random),
-        28 => calls::points(trial, random, &plan),
+        28 => calls::points(trial, random, &plan, 40),
         7 => job::simulate(trial, random, &plan),
         8 | 9 => jobs(trial, random, 20, 60, 1),
         10..=15 => jobs(trial, random, 8, 20, 1),
         _ => jobs(trial, random, 1, 8, 6),
     }
+}
+
+/// A part with desks.
+fn run_desks<S: Implementation, R: Implementation>(
+    trial: &mut Trial<S, R>,
+    random: &mut Random,
+    place: u64,
+    plan: &[u8],
+) {
+    let with_desks = plans::with_desks(random, plan);
+    match place {
+        32 => calls::damaged_plans_with_desks(trial, random),
+        33 => {
+            calls::rows(trial, random, &with_desks);
+            calls::states(trial, random, &with_desks);
+        }
+        34 => {
+            calls::lengths_with_desks(trial, random, &with_desks);
+            calls::journals(trial, random, &with_desks);
+        }
+        OWN_DESKS_PART => calls::own_desks(trial, random, plan),
+        ONE_DESK_PART => {
+            for most in [3, 8, 24] {
+                let plan = plans::up_to(random, most);
+                let at_one_desk = plans::at_one_desk(random, &plan);
+                job::simulate(trial, random, &at_one_desk);
+            }
+        }
+        DESK_JOBS_PART => {
+            for most in [4, 8, 8, 24] {
+                let plan = plans::up_to(random, most);
+                let with_desks = plans::with_desks(random, &plan);
+                job::simulate(trial, random, &with_desks);
+            }
+            if random.chance(1) {
+                let plan = large_plan(random);
+                let with_desks = plans::with_desks(random, &plan);
+                job::simulate(trial, random, &with_desks);
+            }
+        }
+        DESK_MOVES_PART => {
+            for (most, moves) in [(6, 100), (12, 150)] {
+                let plan = moving_plan(random, 2, most);
+                hosts::run(trial, random, &plan);
+                journals::run(trial, random, &plan, moves);
+            }
+        }
+        _ => {
+            let plan = moving_plan(random, 2, 8);
+            journals::points::run(trial, random, &plan, 200);
+            calls::points(trial, random, &with_desks, 10);
+        }
+    }
+}
+
+/// A plan with desks for lists of moves.
+fn moving_plan(random: &mut Random, least: usize, most: usize) -> Vec<u8> {
+    let nodes = random.between(least, most);
+    let mut plan = plans::of_size(random, nodes);
+    plans::favour_xor(random, &mut plan);
+    plans::with_desks(random, &plan)
 }
 
 /// Simulations of plans between two sizes.

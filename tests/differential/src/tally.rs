@@ -46,6 +46,24 @@ pub enum Function {
     PassRecord,
     /// `vulcedar_central`
     Central,
+    /// `vulcedar_desk_check`
+    DeskCheck,
+    /// `vulcedar_desk_step`
+    DeskStep,
+    /// `vulcedar_desk_simulate`
+    DeskSimulate,
+    /// `vulcedar_desk_keep`
+    DeskKeep,
+    /// `vulcedar_desk_undo`
+    DeskUndo,
+    /// `vulcedar_desk_point_undo`
+    DeskPointUndo,
+    /// `vulcedar_desk_point_back`
+    DeskPointBack,
+    /// `vulcedar_desk_record`
+    DeskRecord,
+    /// `vulcedar_desk_record_by`
+    DeskRecordBy,
     /// `vulcedar_rehearse`
     Rehearse,
     /// `vulcedar_version`
@@ -56,9 +74,9 @@ pub enum Function {
 }
 
 /// How many functions there are.
-const FUNCTIONS: usize = 22;
+const FUNCTIONS: usize = 31;
 /// One more than the highest number; 0 is passed.
-const NUMBERS: usize = 22;
+const NUMBERS: usize = 23;
 
 impl Function {
     /// All of them, in the order of the table.
@@ -82,6 +100,15 @@ impl Function {
         Function::CheckTable,
         Function::PassRecord,
         Function::Central,
+        Function::DeskCheck,
+        Function::DeskStep,
+        Function::DeskSimulate,
+        Function::DeskKeep,
+        Function::DeskUndo,
+        Function::DeskPointUndo,
+        Function::DeskPointBack,
+        Function::DeskRecord,
+        Function::DeskRecordBy,
         Function::Rehearse,
         Function::Version,
         Function::Program,
@@ -109,6 +136,15 @@ impl Function {
             Function::CheckTable => "check_table",
             Function::PassRecord => "pass_record",
             Function::Central => "central",
+            Function::DeskCheck => "desk_check",
+            Function::DeskStep => "desk_step",
+            Function::DeskSimulate => "desk_simulate",
+            Function::DeskKeep => "desk_keep",
+            Function::DeskUndo => "desk_undo",
+            Function::DeskPointUndo => "desk_point_undo",
+            Function::DeskPointBack => "desk_point_back",
+            Function::DeskRecord => "desk_record",
+            Function::DeskRecordBy => "desk_record_by",
             Function::Rehearse => "rehearse",
             Function::Version => "version",
             Function::Program => "program",
@@ -132,6 +168,13 @@ impl Function {
             Function::RecordBy => &[0, 1, 2, 3, 4, 5, 6, 7, 21],
             Function::CheckTable => &[0, 21],
             Function::PassRecord => &[0, 1, 2, 3, 4, 5, 6, 7, 13, 14, 21],
+            Function::DeskCheck => &[0, 1, 2, 3, 4, 5, 6, 22],
+            Function::DeskStep => &[0, 1, 2, 3, 4, 5, 6, 7, 8, 9, 10, 11, 22],
+            Function::DeskSimulate | Function::DeskKeep => &[0, 1, 2, 3, 4, 5, 6, 7, 8, 9, 10, 11, 12, 22],
+            Function::DeskUndo | Function::DeskPointUndo => &[0, 1, 2, 3, 4, 5, 6, 7, 8, 9, 16, 22],
+            Function::DeskPointBack => &[0, 1, 2, 3, 4, 5, 6, 7, 8, 9, 19, 22],
+            Function::DeskRecord => &[0, 1, 2, 3, 4, 5, 6, 7, 22],
+            Function::DeskRecordBy => &[0, 1, 2, 3, 4, 5, 6, 7, 21, 22],
             Function::Rehearse => &[0, 1, 2, 3, 4, 5, 6, 7, 15, 21],
             Function::Version => &[0],
             Function::Program => &[0, 1, 2, 3, 4, 5, 6, 8, 9, 10, 11, 12, 15, 21],
@@ -184,6 +227,11 @@ pub struct Jobs {
     pub gone_over: u64,
     /// Points of such lists that were gone back to beside the list.
     pub tried: u64,
+    /// Events that were held against the central rule where all are at one
+    /// desk.
+    pub at_one_desk: u64,
+    /// Calls that were made in both forms of a plan.
+    pub in_both_forms: u64,
 }
 
 /// A count for each rule byte.
@@ -261,8 +309,16 @@ impl Tally {
 
     /// Calls of simulate and step so far.
     pub fn steps(&self) -> u64 {
-        let of = |function: Function| self.counts[function as usize].iter().sum::<u64>();
-        of(Function::Simulate) + of(Function::Step)
+        self.calls(Function::Simulate) + self.calls(Function::Step)
+    }
+
+    /// The same with desks.
+    pub fn desk_steps(&self) -> u64 {
+        self.calls(Function::DeskSimulate) + self.calls(Function::DeskStep)
+    }
+
+    fn calls(&self, function: Function) -> u64 {
+        self.counts[function as usize].iter().sum()
     }
 
     /// Numbers that can occur and didn't.
@@ -280,12 +336,12 @@ impl fmt::Display for Tally {
     fn fmt(&self, out: &mut fmt::Formatter) -> fmt::Result {
         let is_used = |number: &u8| Function::ALL.iter().any(|function| function.numbers().contains(number));
         let used: Vec<u8> = (0..NUMBERS as u8).filter(is_used).collect();
-        write!(out, "{:<12}", "number")?;
+        write!(out, "{:<15}", "number")?;
         for number in &used {
             write!(out, "{number:>9}")?;
         }
         for function in Function::ALL {
-            write!(out, "\n{:<12}", function.name())?;
+            write!(out, "\n{:<15}", function.name())?;
             for number in &used {
                 let count = self.counts[function as usize][usize::from(*number)];
                 if function.numbers().contains(number) || count > 0 {
@@ -322,6 +378,13 @@ impl fmt::Display for Tally {
             out,
             "        {} gone back to, over {} steps; {} tried beside",
             jobs.gone_back, jobs.gone_over, jobs.tried
+        )?;
+        writeln!(
+            out,
+            "desks: {} steps, {} events held against the central rule at one desk, {} calls in both forms",
+            self.desk_steps(),
+            jobs.at_one_desk,
+            jobs.in_both_forms
         )?;
         writeln!(out, "rules of passed events: {} different", self.rules())?;
         writeln!(out, "texts: {}", self.texts)?;

@@ -3,6 +3,7 @@
 
 use crate::codes::{number, value};
 use crate::driver::{Driver, Step, Temper};
+use crate::form::Form;
 use crate::implementation::{Implementation, Reference};
 use crate::plans;
 use crate::random::Random;
@@ -159,7 +160,7 @@ impl Sound {
 fn steps_of(random: &mut Random, plan: &[u8], most: usize) -> Vec<[u8; 3]> {
     let nodes = plan.len() / 2;
     let mut state = vec![0; nodes * nodes];
-    let mut driver = Driver::new(plan, Temper::any(random));
+    let mut driver = Driver::new(Form::Plain, plan, Temper::any(random));
     let mut steps = Vec::new();
     while steps.len() < most
         && let Some(Step { code, node, site }) = driver.propose(random)

@@ -2,8 +2,9 @@
 //! canaries around them, and what the rules say about bytes that stay: a
 //! refused call leaves all, a passed step sets one bit.
 
-use crate::codes::{AND, HAPPENS, PICK, TASK, WAITING_AND, bit, number, site, value};
+use crate::codes::{AND, HAPPENS, TASK, WAITING_AND, bit, number, site, value};
 use crate::driver::{Step, Tree};
+use crate::form::{Form, HIGHEST_DESK};
 use crate::implementation::{Entry, Implementation};
 use crate::lent::{Journal, Lent, Pair, Points};
 use crate::tables;
@@ -19,6 +20,9 @@ pub struct Trial<S, R> {
     pub reference: R,
     /// The counts.
     pub tally: Tally,
+    /// The form of plans for the calls that there are in both forms. All others
+    /// take plain plans.
+    pub form: Form,
     plan: Lent,
     read: Lent,
     table: Lent,
@@ -45,6 +49,7 @@ impl<S: Implementation, R: Implementation> Trial<S, R> {
             subject,
             reference,
             tally: Tally::default(),
+            form: Form::Plain,
             plan: Lent::default(),
             read: Lent::default(),
             table: Lent::default(),
@@ -56,14 +61,35 @@ impl<S: Implementation, R: Implementation> Trial<S, R> {
         }
     }
 
+    /// Does something with plans with desks.
+    pub fn with_desks(&mut self, doing: impl FnOnce(&mut Self)) {
+        self.form = Form::Desks;
+        doing(self);
+        self.form = Form::Plain;
+    }
+
     /// Checks a plan; answers the reference's result, as all these do.
     pub fn check(&mut self, plan: &[u8]) -> u32 {
+        let form = self.form;
         self.plan.load(plan);
-        let theirs = self.subject.check(self.plan.bytes());
-        let ours = self.reference.check(plan);
-        let call = Call { function: Function::Check, plan, numbers: &[], lent: &[] };
-        self.judge(call, ours, theirs, true);
+        let theirs = form.check(&mut self.subject, self.plan.bytes());
+        let ours = form.check(&mut self.reference, plan);
+        let same = form == Form::Plain || theirs == self.check_of_parts(plan);
+        let call = Call { function: form.function(Function::Check), plan, numbers: &[], lent: &[] };
+        self.judge(call, ours, theirs, same);
         ours
+    }
+
+    /// What the check of a plan with desks must answer: by its length, then by
+    /// the subject's own check of the plain plan, then by its desks.
+    fn check_of_parts(&mut self, plan: &[u8]) -> u32 {
+        let (nodes, []) = plan.as_chunks::<3>() else {
+            return 1;
+        };
+        match self.subject.check(&Form::Desks.plain(plan)) {
+            0 if nodes.iter().any(|&[_, _, desk]| desk > HIGHEST_DESK) => 22,
+            checked => checked,
+        }
     }
 
     /// Rewrites a plan into bytes that hold these; answers the subject's
@@ -130,13 +156,33 @@ impl<S: Implementation, R: Implementation> Trial<S, R> {
     }
 
     /// Whether the subject hands on the event's rule where an event passed,
-    /// and nothing otherwise.
-    fn has_its_rule(&mut self, plan: &[u8], code: u32, node: u32, site: u32, theirs: u32) -> bool {
-        if number(theirs) != 0 || site != HAPPENS {
+    /// and nothing otherwise; and where the event was decided, if it was.
+    fn has_its_rule(&mut self, plan: &[u8], step: Step, theirs: u32) -> bool {
+        let Step { code, node, site: hearer } = step;
+        let is_event = hearer == HAPPENS;
+        let is_decided = is_event && matches!(number(theirs), 0 | 10 | 11);
+        let seat = if is_decided { self.form.seat_of_event(plan, code, node as usize) } else { 0 };
+        if site(theirs) != seat {
+            return false;
+        }
+        if number(theirs) != 0 || !is_event {
             return value(theirs) == 0;
         }
         self.tally.count_rule(value(theirs));
-        self.subject.rule(plan, code, node) == value(theirs) << 16
+        self.subject.rule(&self.form.plain(plan), code, node) == value(theirs) << 16
+    }
+
+    /// Whether the step at a desk has the number that the subject's own step
+    /// with the plain plan has, and leaves the row as that does. A plan whose
+    /// desks or length are wrong is no matter of that.
+    fn is_step_of_site(&mut self, plan: &[u8], code: u32, node: u32, row: &Pair, theirs: u32) -> bool {
+        if self.form == Form::Plain || matches!(number(theirs), 1 | 22) {
+            return true;
+        }
+        self.beside.clear();
+        self.beside.extend(row.before());
+        let alone = self.subject.step(&self.form.plain(plan), code, node, &mut self.beside);
+        number(alone) == number(theirs) && row.subject.bytes() == self.beside
     }
 
     /// An event at its site, on a row of its own.
@@ -151,14 +197,17 @@ impl<S: Implementation, R: Implementation> Trial<S, R> {
     /// An event at its site, on a row that goes on; answers also whether both
     /// sides came to the same.
     pub fn step_on(&mut self, plan: &[u8], code: u32, node: u32, row: &mut Pair) -> (u32, bool) {
+        let form = self.form;
         self.plan.load(plan);
-        let theirs = self.subject.step(self.plan.bytes(), code, node, row.subject.bytes_mut());
-        let ours = self.reference.step(plan, code, node, &mut row.reference);
-        let has_rule = self.has_its_rule(plan, code, node, HAPPENS, theirs);
-        let same = is_bit_set(row, ours, code, node as usize) && has_rule;
-        let call = Call { function: Function::Step, plan, numbers: &[code, node], lent: &[row.before()] };
+        let theirs = form.step(&mut self.subject, self.plan.bytes(), code, node, row.subject.bytes_mut());
+        let ours = form.step(&mut self.reference, plan, code, node, &mut row.reference);
+        let has_rule = self.has_its_rule(plan, Step { code, node, site: HAPPENS }, theirs);
+        let of_site = self.is_step_of_site(plan, code, node, row, theirs);
+        let same = is_bit_set(row, ours, code, Some(node as usize)) && has_rule && of_site;
+        let function = form.function(Function::Step);
+        let call = Call { function, plan, numbers: &[code, node], lent: &[row.before()] };
         let fine = self.judge(call, ours, theirs, same);
-        keep_bit(row, ours, node as usize);
+        keep_bit(row, ours, Some(node as usize));
         (ours, fine)
     }
 
@@ -177,10 +226,10 @@ impl<S: Implementation, R: Implementation> Trial<S, R> {
         self.plan.load(plan);
         let theirs = self.subject.hear(self.plan.bytes(), code, node, row.subject.bytes_mut());
         let ours = self.reference.hear(plan, code, node, &mut row.reference);
-        let same = is_bit_set(row, ours, code, node as usize);
+        let same = is_bit_set(row, ours, code, Some(node as usize));
         let call = Call { function: Function::Hear, plan, numbers: &[code, node], lent: &[row.before()] };
         let fine = self.judge(call, ours, theirs, same);
-        keep_bit(row, ours, node as usize);
+        keep_bit(row, ours, Some(node as usize));
         (ours, fine)
     }
 
@@ -206,17 +255,21 @@ impl<S: Implementation, R: Implementation> Trial<S, R> {
         self.read.load(state);
         self.one.load(marks);
         self.two.load(classes);
+        let form = self.form;
         let (subject_marks, subject_classes) = (&mut self.one.subject, &mut self.two.subject);
-        let theirs = self.subject.record(
+        let theirs = form.record(
+            &mut self.subject,
             self.plan.bytes(),
             self.read.bytes(),
             subject_marks.bytes_mut(),
             subject_classes.bytes_mut(),
         );
-        let ours = self.reference.record(plan, state, &mut self.one.reference, &mut self.two.reference);
+        let (our_marks, our_classes) = (&mut self.one.reference, &mut self.two.reference);
+        let ours = form.record(&mut self.reference, plan, state, our_marks, our_classes);
         let refused_leaves = number(ours) == 0 || (self.one.is_untouched() && self.two.is_untouched());
         let same = self.one.agrees() && self.two.agrees() && refused_leaves && self.read.is_still(state);
-        let call = Call { function: Function::Record, plan, numbers: &[], lent: &[state, marks, classes] };
+        let lent = &[state, marks, classes];
+        let call = Call { function: form.function(Function::Record), plan, numbers: &[], lent };
         self.judge(call, ours, theirs, same);
         (ours, self.one.subject.bytes(), self.two.subject.bytes())
     }
@@ -236,21 +289,23 @@ impl<S: Implementation, R: Implementation> Trial<S, R> {
         self.table.load(table);
         self.one.load(marks);
         self.two.load(classes);
+        let form = self.form;
         let (subject_marks, subject_classes) = (&mut self.one.subject, &mut self.two.subject);
-        let theirs = self.subject.record_by(
+        let theirs = form.record_by(
+            &mut self.subject,
             self.plan.bytes(),
             self.table.bytes(),
             self.read.bytes(),
             subject_marks.bytes_mut(),
             subject_classes.bytes_mut(),
         );
-        let ours =
-            self.reference.record_by(plan, table, state, &mut self.one.reference, &mut self.two.reference);
+        let (our_marks, our_classes) = (&mut self.one.reference, &mut self.two.reference);
+        let ours = form.record_by(&mut self.reference, plan, table, state, our_marks, our_classes);
         let refused_leaves = number(ours) == 0 || (self.one.is_untouched() && self.two.is_untouched());
         let read_stays = self.read.is_still(state) && self.table.is_still(table);
         let same = self.one.agrees() && self.two.agrees() && refused_leaves && read_stays;
         let lent = &[table, state, marks, classes];
-        let call = Call { function: Function::RecordBy, plan, numbers: &[], lent };
+        let call = Call { function: form.function(Function::RecordBy), plan, numbers: &[], lent };
         self.judge(call, ours, theirs, same);
         (ours, self.one.subject.bytes(), self.two.subject.bytes())
     }
@@ -308,14 +363,16 @@ impl<S: Implementation, R: Implementation> Trial<S, R> {
         site: u32,
         state: &mut Pair,
     ) -> (u32, bool) {
+        let (form, step) = (self.form, Step { code, node, site });
         self.plan.load(plan);
-        let theirs = self.subject.simulate(self.plan.bytes(), code, node, site, state.subject.bytes_mut());
-        let ours = self.reference.simulate(plan, code, node, site, &mut state.reference);
-        let place = place_in_state(plan, code, node, site);
-        let has_rule = self.has_its_rule(plan, code, node, site, theirs);
+        let theirs = form.simulate(&mut self.subject, self.plan.bytes(), step, state.subject.bytes_mut());
+        let ours = form.simulate(&mut self.reference, plan, step, &mut state.reference);
+        let place = form.place(plan, step);
+        let has_rule = self.has_its_rule(plan, step, theirs);
         let same = is_bit_set(state, ours, code, place) && has_rule;
         let lent = &[short_bytes(state.before())];
-        let call = Call { function: Function::Simulate, plan, numbers: &[code, node, site], lent };
+        let function = form.function(Function::Simulate);
+        let call = Call { function, plan, numbers: &[code, node, site], lent };
         let fine = self.judge(call, ours, theirs, same);
         keep_bit(state, ours, place);
         (ours, fine)
@@ -334,22 +391,22 @@ impl<S: Implementation, R: Implementation> Trial<S, R> {
     /// both sides came to the same.
     pub fn keep_on(&mut self, plan: &[u8], step: Step, journal: &mut Journal) -> (u32, bool) {
         let Step { code, node, site } = step;
+        let form = self.form;
         self.plan.load(plan);
         let expected = self.simulate_beside(plan, step, journal);
-        let (state, entries, count) = journal.subject();
-        let theirs = self.subject.keep(self.plan.bytes(), step, state, entries, count);
-        let (state, entries, count) = journal.reference();
-        let ours = self.reference.keep(plan, step, state, entries, count);
+        let theirs = form.keep(&mut self.subject, self.plan.bytes(), step, journal.subject());
+        let ours = form.keep(&mut self.reference, plan, step, journal.reference());
         let passed = number(ours) == 0;
-        let right = if passed { has_kept(plan, step, journal) } else { journal.is_untouched() };
+        let place = form.place(plan, step);
+        let right = if passed { has_kept(place, step, journal) } else { journal.is_untouched() };
         let as_beside = theirs == expected && (!passed || journal.state.subject.bytes() == self.beside);
         let count = journal.count.before();
         let numbers = &[code, node, site, short_number(count)];
         let lent = &[short_bytes(journal.state.before()), short_bytes(journal.entries.before())];
-        let call = Call { function: Function::Keep, plan, numbers, lent };
+        let call = Call { function: form.function(Function::Keep), plan, numbers, lent };
         let fine = self.judge(call, ours, theirs, right && as_beside);
         if fine && passed {
-            journal.state.keep(place_in_state(plan, code, node, site));
+            place.into_iter().for_each(|place| journal.state.keep(place));
             (4 * count..4 * count + 4).for_each(|place| journal.entries.keep(place));
             journal.count.keep();
         }
@@ -362,9 +419,9 @@ impl<S: Implementation, R: Implementation> Trial<S, R> {
     fn simulate_beside(&mut self, plan: &[u8], step: Step, journal: &Journal) -> u32 {
         self.beside.clear();
         self.beside.extend(journal.state.before());
-        let result = self.subject.simulate(plan, step.code, step.node, step.site, &mut self.beside);
+        let result = self.form.simulate(&mut self.subject, plan, step, &mut self.beside);
         let has_place = journal.count.before() < journal.entries().len();
-        if has_place || (1..=7).contains(&number(result)) { result } else { 7 }
+        if has_place || matches!(number(result), 1..=7 | 22) { result } else { 7 }
     }
 
     /// A take-back on a state and a journal of its own.
@@ -379,23 +436,23 @@ impl<S: Implementation, R: Implementation> Trial<S, R> {
     /// A take-back on a state and a journal that go on; answers also whether
     /// both sides came to the same.
     pub fn undo_on(&mut self, plan: &[u8], journal: &mut Journal) -> (u32, bool) {
+        let form = self.form;
         self.plan.load(plan);
         let expected = self.number_of_undo(plan, journal);
-        let (state, entries, count) = journal.subject();
-        let theirs = self.subject.undo(self.plan.bytes(), state, entries, count);
-        let (state, entries, count) = journal.reference();
-        let ours = self.reference.undo(plan, state, entries, count);
+        let place = last_entry(journal).and_then(|entry| form.place(plan, step_of(entry)));
+        let theirs = form.undo(&mut self.subject, self.plan.bytes(), journal.subject());
+        let ours = form.undo(&mut self.reference, plan, journal.reference());
         let passed = number(ours) == 0;
-        let right = if passed { has_undone(plan, journal) } else { journal.is_untouched() };
+        let right = if passed { has_undone(place, journal) } else { journal.is_untouched() };
         let numbers = &[short_number(journal.count.before())];
         let lent = &[short_bytes(journal.state.before()), short_bytes(journal.entries.before())];
-        let call = Call { function: Function::Undo, plan, numbers, lent };
+        let call = Call { function: form.function(Function::Undo), plan, numbers, lent };
         let fine = self.judge(call, ours, theirs, right && theirs == expected);
         if fine
             && passed
-            && let Some(&[code, node, site, _]) = last_entry(journal)
+            && let Some(place) = place
         {
-            journal.state.keep(place_in_state(plan, code.into(), node.into(), site.into()));
+            journal.state.keep(place);
             journal.count.keep();
         }
         (ours, fine)
@@ -404,18 +461,20 @@ impl<S: Implementation, R: Implementation> Trial<S, R> {
     /// What the subject must answer to a take-back: by its own check, by the
     /// lengths, and for the last entry by its own question for a rule.
     fn number_of_undo(&mut self, plan: &[u8], journal: &Journal) -> u32 {
-        let nodes = plan.len() / 2;
-        let checked = self.subject.check(plan);
+        let form = self.form;
+        let checked = form.check(&mut self.subject, plan);
         if checked != 0 {
             return checked;
         }
-        if journal.state.length() != nodes * nodes || journal.count.before() > journal.entries().len() {
+        let is_above = journal.count.before() > journal.entries().len();
+        if journal.state.length() != form.state_length(plan) || is_above {
             return 7;
         }
-        match last_entry(journal) {
+        let nobody = |seat: u32| seat != HAPPENS && form.row(plan, seat).is_none();
+        match last_entry(journal).map(step_of) {
             None => 16,
-            Some(&[_, _, site, _]) if u32::from(site) != HAPPENS && usize::from(site) >= nodes => 8,
-            Some(&[code, node, _, _]) => number(self.subject.rule(plan, code.into(), node.into())).into(),
+            Some(Step { site, .. }) if nobody(site) => 8,
+            Some(Step { code, node, .. }) => number(self.subject.rule(&form.plain(plan), code, node)).into(),
         }
     }
 
@@ -569,30 +628,28 @@ fn and_waiting(plan: &[u8]) -> Vec<u8> {
     plan.iter().enumerate().map(kind_or_parent).collect()
 }
 
-/// Where in the state a step sets its bit: in the row of the event's site, or
-/// of the site that hears. The caller makes sure that the step passed.
-fn place_in_state(plan: &[u8], code: u32, node: u32, site: u32) -> usize {
-    let nodes = plan.len() / 2;
-    let node = node as usize;
-    let row = match (site, code) {
-        (HAPPENS, PICK) => plan.get(node * 2 + 1).map_or(0, |&parent| usize::from(parent)),
-        (HAPPENS, _) => node,
-        _ => site as usize,
-    };
-    row.wrapping_mul(nodes).wrapping_add(node)
-}
-
-/// Whether a passed step set its bit and nothing else, and a refused one
-/// nothing at all.
-fn is_bit_set(pair: &mut Pair, result: u32, code: u32, place: usize) -> bool {
-    if number(result) == 0 { pair.has_only_set(place, 1 << (code - 1)) } else { pair.is_untouched() }
+/// Whether a passed step set its bit, which has a place, and nothing else, and
+/// a refused one nothing at all.
+fn is_bit_set(pair: &mut Pair, result: u32, code: u32, place: Option<usize>) -> bool {
+    match place {
+        _ if number(result) != 0 => pair.is_untouched(),
+        Some(place) if place < pair.length() => pair.has_only_set(place, bit(code)),
+        _ => false,
+    }
 }
 
 /// What a passed step set is there for the next one.
-fn keep_bit(pair: &mut Pair, result: u32, place: usize) {
-    if number(result) == 0 {
+fn keep_bit(pair: &mut Pair, result: u32, place: Option<usize>) {
+    if number(result) == 0
+        && let Some(place) = place.filter(|&place| place < pair.length())
+    {
         pair.keep(place);
     }
+}
+
+/// The step that was kept as an entry.
+fn step_of(&[code, node, site, _]: &Entry) -> Step {
+    Step { code: code.into(), node: node.into(), site: site.into() }
 }
 
 /// The last of the steps kept before the call, if there is one.
@@ -602,11 +659,13 @@ fn last_entry(journal: &Journal) -> Option<&Entry> {
 
 /// Whether a kept step set its bit, its entry stands at the place that the
 /// count had, the count is one more, and nothing else changed.
-fn has_kept(plan: &[u8], step: Step, journal: &mut Journal) -> bool {
+fn has_kept(place: Option<usize>, step: Step, journal: &mut Journal) -> bool {
     let Step { code, node, site } = step;
     let count = journal.count.before();
-    let place = place_in_state(plan, code, node, site);
-    if count >= journal.entries().len() || place >= journal.state.length() {
+    let Some(place) = place.filter(|&place| place < journal.state.length()) else {
+        return false;
+    };
+    if count >= journal.entries().len() {
         return false;
     }
     let changed = u8::from(journal.state.before()[place] & bit(code) == 0);
@@ -618,11 +677,10 @@ fn has_kept(plan: &[u8], step: Step, journal: &mut Journal) -> bool {
 
 /// Whether a take-back cleared just the bit of the last entry, or nothing if
 /// that says so, and the count is one less.
-fn has_undone(plan: &[u8], journal: &mut Journal) -> bool {
-    let Some(&[code, node, site, changed]) = last_entry(journal) else {
+fn has_undone(place: Option<usize>, journal: &mut Journal) -> bool {
+    let (Some(&[code, _, _, changed]), Some(place)) = (last_entry(journal), place) else {
         return false;
     };
-    let place = place_in_state(plan, code.into(), node.into(), site.into());
     let Some(&before) = journal.state.before().get(place) else {
         return false;
     };

@@ -1,7 +1,7 @@
 //! One function for each function of the C archive, with the same packed
-//! result: bits 0 to 7 the number (0 passed), bits 8 to 15 the site that let
-//! an event pass or refused it by its row, bits 16 to 31 a value where the
-//! function has one; for an event that passed this is its rule. Two answer
+//! result: bits 0 to 7 the number (0 passed), bits 8 to 15 the site, or desk,
+//! that let an event pass or refused it by its row, bits 16 to 31 a value where
+//! the function has one; for an event that passed this is its rule. Two answer
 //! otherwise: `guard`, which has its rule in bits 8 to 15, and `version`.
 //!
 //! They are never inlined, so that a caller pays for a call here as well.
@@ -13,7 +13,8 @@ use crate::refusal::Refusal;
 use crate::simulate::Outcome;
 use crate::site::Verdict;
 use crate::table::Table;
-use crate::{central as central_rule, guard as guards, journal as journals, pass as passes, plan, points};
+use crate::{central as central_rule, desks, guard as guards, journal as journals};
+use crate::{pass as passes, plan, points};
 use crate::{rewrite as rewriting, rule as rules, simulate as simulation, site as sites, text as texts};
 
 /// The number in a packed result.
@@ -172,6 +173,104 @@ pub fn pass_record(plan: &[u8], table: &[u8], answers: &[u8], marks: &mut [u8], 
     done(table.and_then(|table| records::pass_record(&table, plan, answers, marks, classes)))
 }
 
+/// Checks a plan with desks: 1 to 6, 22.
+#[inline(never)]
+pub fn desk_check(plan: &[u8]) -> u32 {
+    done(desks::open(plan, |_| ()))
+}
+
+/// An event at its desk, by the desk's row; the value is the rule of one that
+/// passes. 1 to 6, 22, 7 to 11.
+#[inline(never)]
+pub fn desk_step(plan: &[u8], code: u32, node: u32, row: &mut [u8]) -> u32 {
+    desks::open(plan, |desks| sites::step_in(desks, code, node, row)).map_or_else(refused, verdict)
+}
+
+/// A step of a simulation with desks: an event if the desk is 255, else a
+/// message to that desk. 1 to 6, 22, 7 to 12.
+#[inline(never)]
+pub fn desk_simulate(plan: &[u8], code: u32, node: u32, desk: u32, state: &mut [u8]) -> u32 {
+    let simulated = desks::open(plan, |desks| simulation::simulate_in(desks, code, node, desk, state));
+    simulated.map_or_else(refused, outcome)
+}
+
+/// A step of a simulation with desks that is kept as an entry. 1 to 6, 22, 7
+/// to 12.
+#[inline(never)]
+pub fn desk_keep(
+    plan: &[u8],
+    code: u32,
+    node: u32,
+    desk: u32,
+    state: &mut [u8],
+    entries: &mut [Entry],
+    count: &mut usize,
+) -> u32 {
+    let step = [code, node, desk];
+    let kept = desks::open(plan, |desks| journals::keep_in(desks, step, state, entries, count));
+    kept.map_or_else(refused, outcome)
+}
+
+/// Takes the last kept step back, in a plan with desks. 1 to 6, 22, 7, 16, 8,
+/// 9.
+#[inline(never)]
+pub fn desk_undo(plan: &[u8], state: &mut [u8], entries: &[Entry], count: &mut usize) -> u32 {
+    done(desks::open(plan, |desks| journals::undo_in(desks, state, entries, count)).flatten())
+}
+
+/// The same, and drops the points past the new count. 1 to 6, 22, 7, 16, 8, 9.
+#[inline(never)]
+pub fn desk_point_undo(
+    plan: &[u8],
+    state: &mut [u8],
+    entries: &[Entry],
+    count: &mut usize,
+    names: &mut [u8],
+    places: &mut [u64],
+) -> u32 {
+    done(desks::open(plan, |desks| points::undo_in(desks, state, entries, count, names, places)).flatten())
+}
+
+/// Goes back to the point of a name, in a plan with desks. 1 to 6, 22, 7, 19,
+/// 8, 9.
+#[inline(never)]
+pub fn desk_point_back(
+    plan: &[u8],
+    name: &[u8],
+    state: &mut [u8],
+    entries: &[Entry],
+    count: &mut usize,
+    names: &mut [u8],
+    places: &mut [u64],
+) -> u32 {
+    let gone = desks::open(plan, |desks| points::back_in(desks, name, state, entries, count, names, places));
+    done(gone.flatten())
+}
+
+/// The end record of a simulation with desks, by the common table. 1 to 6, 22,
+/// 7.
+#[inline(never)]
+pub fn desk_record(plan: &[u8], state: &[u8], marks: &mut [u8], classes: &mut [u8]) -> u32 {
+    done(desk_record_of(&Table::COMMON, plan, state, marks, classes))
+}
+
+/// The same by a table that is handed in. 21, then 1 to 6, 22, 7.
+#[inline(never)]
+pub fn desk_record_by(plan: &[u8], table: &[u8], state: &[u8], marks: &mut [u8], classes: &mut [u8]) -> u32 {
+    let table = Table::load(table);
+    done(table.and_then(|table| desk_record_of(&table, plan, state, marks, classes)))
+}
+
+fn desk_record_of(
+    table: &Table,
+    plan: &[u8],
+    state: &[u8],
+    marks: &mut [u8],
+    classes: &mut [u8],
+) -> Result<(), Refusal> {
+    desks::open(plan, |desks| records::record_in(table, desks, state, marks, classes)).flatten()
+}
+
 /// A simulation from text; the value is the length of what the program
 /// `rehearse` prints for it. 15, 21, 1 to 7.
 #[inline(never)]
@@ -182,10 +281,10 @@ pub fn rehearse(text: &[u8], out: &mut [u8]) -> u32 {
     }
 }
 
-/// The version of these calls, a byte each for its three numbers: 1.2.0.
+/// The version of these calls, a byte each for its three numbers: 1.3.0.
 #[inline(never)]
 pub fn version() -> u32 {
-    (1 << 16) + (2 << 8)
+    (1 << 16) + (3 << 8)
 }
 
 /// The central rule; the value is 1 if the event was allowed. 1 to 9.

@@ -18,10 +18,12 @@
 #![forbid(unsafe_code)]
 
 pub mod central;
+pub mod desks;
 pub mod event;
 pub mod exported;
 pub mod guard;
 pub mod journal;
+pub mod layout;
 pub mod mark;
 pub mod pass;
 pub mod plan;

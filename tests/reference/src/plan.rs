@@ -51,7 +51,7 @@ impl Kind {
 }
 
 /// A node's two bytes: kind, parent.
-type Node = [u8; 2];
+pub(crate) type Node = [u8; 2];
 
 /// A plan that has been checked.
 #[derive(Clone, Copy)]

@@ -1,7 +1,9 @@
 //! Named points: places in a journal that have a name, in lent slots, so that
 //! a simulation can go back to them.
 
-use crate::journal::{Entry, kept, open, take_back};
+use crate::journal::{Entry, fitting, kept, take_back};
+use crate::layout::Layout;
+use crate::plan::Plan;
 use crate::refusal::Refusal;
 use crate::simulate::Step;
 
@@ -34,10 +36,22 @@ pub fn undo(
     names: &mut [u8],
     places: &mut [u64],
 ) -> Result<(), Refusal> {
-    let plan = open(plan, state)?;
+    undo_in(&Plan::check(plan)?, state, entries, count, names, places)
+}
+
+/// The same in a checked plan.
+pub(crate) fn undo_in(
+    layout: &impl Layout,
+    state: &mut [u8],
+    entries: &[Entry],
+    count: &mut usize,
+    names: &mut [u8],
+    places: &mut [u64],
+) -> Result<(), Refusal> {
+    fitting(layout, state)?;
     let kept = kept(entries, *count)?;
     let slots = Slots::read(names, places, *count)?;
-    take_back(&plan, kept.last().ok_or(Refusal::NoStep)?, state)?;
+    take_back(layout, kept.last().ok_or(Refusal::NoStep)?, state)?;
     *count -= 1;
     slots.drop_past(*count);
     Ok(())
@@ -56,14 +70,27 @@ pub fn back(
     names: &mut [u8],
     places: &mut [u64],
 ) -> Result<(), Refusal> {
-    let plan = open(plan, state)?;
+    back_in(&Plan::check(plan)?, name, state, entries, count, names, places)
+}
+
+/// The same in a checked plan.
+pub(crate) fn back_in(
+    layout: &impl Layout,
+    name: &[u8],
+    state: &mut [u8],
+    entries: &[Entry],
+    count: &mut usize,
+    names: &mut [u8],
+    places: &mut [u64],
+) -> Result<(), Refusal> {
+    fitting(layout, state)?;
     let kept = kept(entries, *count)?;
     let slots = Slots::read(names, places, *count)?;
     let name = read_name(name)?;
     let place = slots.find(name).and_then(|slot| slots.place(slot)).ok_or(Refusal::UnknownPoint)?;
     let way = &kept[place..];
-    way.iter().rev().try_for_each(|entry| Step::of_entry(&plan, entry).map(|_| ()))?;
-    way.iter().rev().try_for_each(|entry| take_back(&plan, entry, state))?;
+    way.iter().rev().try_for_each(|entry| Step::of_entry(layout, entry).map(|_| ()))?;
+    way.iter().rev().try_for_each(|entry| take_back(layout, entry, state))?;
     *count = place;
     slots.drop_past(place);
     Ok(())

@@ -1,5 +1,6 @@
 //! Records: every node's mark and retention class, of a state or of the pass.
 
+use crate::layout::Layout;
 use crate::mark::{self, COMMITTED, FAILED, OFFERED, TURNED_DOWN};
 use crate::pass;
 use crate::plan::{Kind, MAX_NODES, Plan};
@@ -62,15 +63,25 @@ pub fn record(
     marks: &mut [u8],
     classes: &mut [u8],
 ) -> Result<(), Refusal> {
-    let plan = Plan::check(plan)?;
-    let size = plan.size();
-    if state.len() != size * size || marks.len() != size || classes.len() != size {
+    record_in(table, &Plan::check(plan)?, state, marks, classes)
+}
+
+/// The same in a checked plan: 7.
+pub(crate) fn record_in(
+    table: &Table,
+    layout: &impl Layout,
+    state: &[u8],
+    marks: &mut [u8],
+    classes: &mut [u8],
+) -> Result<(), Refusal> {
+    let size = layout.plan().size();
+    if !layout.fits(state) || marks.len() != size || classes.len() != size {
         return Err(Refusal::Length);
     }
     for (node, mark) in marks.iter_mut().enumerate() {
-        *mark = mark::of_heard(state[node * size + node]);
+        *mark = mark::of_heard(state[layout.row(node) * size + node]);
     }
-    classify(table, &plan, marks, classes);
+    classify(table, layout.plan(), marks, classes);
     Ok(())
 }
 

@@ -5,7 +5,8 @@
 #[derive(Clone, Copy, Debug, PartialEq, Eq)]
 #[repr(u8)]
 pub enum Refusal {
-    /// The plan's length is odd, 0 or too big.
+    /// The plan's length is odd, 0 or too big; with desks: no multiple of three,
+    /// 0 or too big.
     PlanLength = 1,
     /// A node has no known kind.
     Kind = 2,
@@ -19,7 +20,7 @@ pub enum Refusal {
     Depth = 6,
     /// A lent buffer has the wrong length, or points aren't right.
     Length = 7,
-    /// A code, node or site that doesn't exist.
+    /// A code, node or site that doesn't exist, or a desk that isn't in use.
     Unknown = 8,
     /// The event doesn't apply to its node.
     NotApplicable = 9,
@@ -43,6 +44,8 @@ pub enum Refusal {
     NoFreePoint = 20,
     /// A table of classes that isn't one.
     Table = 21,
+    /// A desk above the highest.
+    Desk = 22,
 }
 
 impl Refusal {

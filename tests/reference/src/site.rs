@@ -2,6 +2,7 @@
 
 use crate::event::{Code, Event};
 use crate::guard::Guard;
+use crate::layout::Layout;
 use crate::plan::Plan;
 use crate::refusal::Refusal;
 use crate::rule;
@@ -11,7 +12,7 @@ use crate::rule;
 pub enum Verdict {
     /// It happened at this site.
     Passed {
-        /// The site.
+        /// The number of the site, or of its desk.
         site: usize,
         /// The rule that let it pass.
         rule: u8,
@@ -20,7 +21,7 @@ pub enum Verdict {
     RefusedAt {
         /// Barred or guard.
         cause: Refusal,
-        /// The site.
+        /// The number of the site, or of its desk.
         site: usize,
     },
     /// The call itself was wrong.
@@ -36,8 +37,17 @@ impl From<Refusal> for Verdict {
 /// A site's step. The row must be that of the event's site; which one it is
 /// can't be seen from the row.
 pub fn step(plan: &[u8], code: u32, node: u32, row: &mut [u8]) -> Verdict {
-    match read(plan, code, node, row) {
-        Ok((plan, event)) => happen(&plan, event, row),
+    match Plan::check(plan) {
+        Ok(plan) => step_in(&plan, code, node, row),
+        Err(cause) => cause.into(),
+    }
+}
+
+/// A site's step in a checked plan: 7 for the row, then 8 and 9, then what the
+/// site decides.
+pub(crate) fn step_in(layout: &impl Layout, code: u32, node: u32, row: &mut [u8]) -> Verdict {
+    match read(layout.plan(), code, node, row) {
+        Ok(event) => happen(layout, event, row),
         Err(cause) => cause.into(),
     }
 }
@@ -45,15 +55,16 @@ pub fn step(plan: &[u8], code: u32, node: u32, row: &mut [u8]) -> Verdict {
 /// A message into a row. Whether the event has happened is for the caller to
 /// know.
 pub fn hear(plan: &[u8], code: u32, node: u32, row: &mut [u8]) -> Result<(), Refusal> {
-    let (_, event) = read(plan, code, node, row)?;
+    let event = read(&Plan::check(plan)?, code, node, row)?;
     event.set(row);
     Ok(())
 }
 
 /// Tries an event at its site: bars first, then the guard. A passed event is
 /// set in the row, a refused one leaves it.
-pub(crate) fn happen(plan: &Plan, event: Event, row: &mut [u8]) -> Verdict {
-    let site = event.site(plan);
+pub(crate) fn happen(layout: &impl Layout, event: Event, row: &mut [u8]) -> Verdict {
+    let plan = layout.plan();
+    let site = layout.number(event.site(plan));
     if is_barred(plan, event, row) {
         return Verdict::RefusedAt { cause: Refusal::Barred, site };
     }
@@ -64,14 +75,12 @@ pub(crate) fn happen(plan: &Plan, event: Event, row: &mut [u8]) -> Verdict {
     Verdict::Passed { site, rule: rule::of(plan, event) }
 }
 
-/// 1 to 6, then 7 for the row, then 8 and 9.
-fn read<'a>(plan: &'a [u8], code: u32, node: u32, row: &[u8]) -> Result<(Plan<'a>, Event), Refusal> {
-    let plan = Plan::check(plan)?;
+/// 7 for the row, then 8 and 9.
+fn read(plan: &Plan, code: u32, node: u32, row: &[u8]) -> Result<Event, Refusal> {
     if row.len() != plan.size() {
         return Err(Refusal::Length);
     }
-    let event = Event::read(&plan, code, node)?;
-    Ok((plan, event))
+    Event::read(plan, code, node)
 }
 
 /// Whether the row holds something that shuts the event out. The bits count

@@ -39,6 +39,8 @@ fn exported_functions_do_not_allocate() {
     let (mut marks, mut notes, mut state, mut buffer) = ([0; 6], [0; 6], [0; 36], [0; 300]);
     let (mut kept, mut entries, mut count) = ([0; 36], [[0; 4]; 9], 0);
     let (mut names, mut places) = ([0; 128], [0; 16]);
+    let desks = at_desks(&plan, &[7, 0x9f, 7, 0, 0x9f, 7]);
+    let (mut rows, mut desk_names, mut desk_places) = ([0; 18], [0; 128], [0; 16]);
     let before = COUNT.get();
     let mut sum = exported::check(&plan) + exported::rewrite(&plan, &mut buffer[..12]);
     sum += exported::check_depths(&plan, &mut marks);
@@ -59,8 +61,19 @@ fn exported_functions_do_not_allocate() {
             sum +=
                 exported::point_back(&plan, &name, &mut kept, &entries, &mut count, &mut names, &mut places);
             sum += exported::central(&plan, code, node, &mut marks, &mut notes);
+            sum += exported::desk_step(&desks, code, node, &mut marks);
+            sum += exported::desk_simulate(&desks, code, node, HAPPENS, &mut rows);
+            sum += exported::desk_simulate(&desks, code, node, 0x9f, &mut rows);
+            sum += exported::desk_keep(&desks, code, node, HAPPENS, &mut rows, &mut entries, &mut count);
+            sum += exported::desk_undo(&desks, &mut rows, &entries, &mut count);
+            let (names, places) = (&mut desk_names, &mut desk_places);
+            sum += exported::desk_point_undo(&desks, &mut rows, &entries, &mut count, names, places);
+            sum += exported::desk_point_back(&desks, &name, &mut rows, &entries, &mut count, names, places);
         }
     }
+    sum += exported::desk_check(&desks);
+    sum += exported::desk_record(&desks, &rows, &mut marks, &mut notes);
+    sum += exported::desk_record_by(&desks, &COMMON_TABLE, &rows, &mut marks, &mut notes);
     sum += exported::pass(&plan, &answers, &mut marks);
     sum += exported::record(&plan, &state, &mut marks, &mut notes);
     sum += exported::record_by(&plan, &COMMON_TABLE, &state, &mut marks, &mut notes);

@@ -1,24 +1,42 @@
 //! Every simulation of every small plan: all events and all messages that a
 //! guard can notice, in every order. What passes must be a run of the central
 //! rule, what the central rule allows must pass once everybody knows, and
-//! when the job is over the pass must come to the same record.
+//! when the job is over the pass must come to the same record. All this once
+//! with a row for each site, and once with desks.
 
 mod common;
 
 use common::*;
-use reference::exported::{central, number, record, record_by, simulate, value};
-use std::collections::HashSet;
+use reference::exported::{central, number, value};
+use reference::exported::{desk_record, desk_record_by, desk_simulate, record, record_by, simulate};
+use std::collections::{BTreeSet, HashSet};
 
 /// A plan with its events, and the messages that some guard can notice.
 struct World {
     plan: Vec<u8>,
     nodes: usize,
+    /// The same plan with desks, where sites share rows.
+    with_desks: Option<Vec<u8>>,
+    /// Where every node's site is: its desk, or the site itself.
+    desks: Vec<u8>,
+    /// The desks in use, rising: one row for each.
+    in_use: Vec<u8>,
     events: Vec<(u32, u32)>,
     messages: Vec<(u32, u32, u32)>,
 }
 
 impl World {
     fn new(plan: Vec<u8>) -> World {
+        let sites = (0..plan.len() / 2).map(|node| node as u8).collect();
+        World::of(plan, sites)
+    }
+
+    fn with_desks(plan: Vec<u8>, desks: &[u8]) -> World {
+        let with_desks = Some(at_desks(&plan, desks));
+        World { with_desks, ..World::of(plan, desks.to_vec()) }
+    }
+
+    fn of(plan: Vec<u8>, desks: Vec<u8>) -> World {
         let nodes = plan.len() / 2;
         let all = (1..=8).flat_map(|code| (0..nodes as u32).map(move |node| (code, node)));
         let mut buffer = [0; 300];
@@ -26,15 +44,27 @@ impl World {
             number(reference::exported::guard(&plan, code, node, &mut buffer)) == 0
         };
         let events: Vec<_> = all.filter(applies).collect();
-        let mut messages: Vec<_> = events.iter().flat_map(|&event| noticed(&plan, event)).collect();
+        let mut messages: Vec<_> = events.iter().flat_map(|&event| noticed(&plan, &desks, event)).collect();
         messages.sort_unstable();
         messages.dedup();
-        World { plan, nodes, events, messages }
+        let in_use: BTreeSet<u8> = desks.iter().copied().collect();
+        let in_use = in_use.into_iter().collect();
+        World { plan, nodes, with_desks: None, desks, in_use, events, messages }
+    }
+
+    /// What the row of a node's site has heard of some node.
+    fn heard(&self, state: &[u8], node: usize, of: usize) -> u8 {
+        let row = self.in_use.iter().position(|&desk| desk == self.desks[node]).unwrap();
+        state[row * self.nodes + of]
     }
 
     fn step(&self, state: &[u8], code: u32, node: u32, site: u32) -> Option<Vec<u8>> {
         let mut after = state.to_vec();
-        let passed = number(simulate(&self.plan, code, node, site, &mut after)) == 0;
+        let result = match &self.with_desks {
+            Some(plan) => desk_simulate(plan, code, node, site, &mut after),
+            None => simulate(&self.plan, code, node, site, &mut after),
+        };
+        let passed = number(result) == 0;
         assert!(passed || after == state, "a refused step leaves the state");
         passed.then_some(after)
     }
@@ -42,11 +72,15 @@ impl World {
     /// Marks, answers and picks, each from the row of the site it is at.
     fn seen_from_above(&self, state: &[u8]) -> (Vec<u8>, Vec<u8>) {
         let (mut marks, mut classes) = (vec![0; self.nodes], vec![0; self.nodes]);
-        assert_eq!(record(&self.plan, state, &mut marks, &mut classes), 0);
+        let result = match &self.with_desks {
+            Some(plan) => desk_record(plan, state, &mut marks, &mut classes),
+            None => record(&self.plan, state, &mut marks, &mut classes),
+        };
+        assert_eq!(result, 0);
         let notes = (0..self.nodes).map(|node| {
             let parent = usize::from(self.plan[2 * node + 1]);
-            let at_parent = if node == 0 { 0 } else { state[parent * self.nodes + node] };
-            state[node * self.nodes + node] & 0x30 | at_parent & 0x40
+            let at_parent = if node == 0 { 0 } else { self.heard(state, parent, node) };
+            self.heard(state, node, node) & 0x30 | at_parent & 0x40
         });
         (marks, notes.collect())
     }
@@ -61,7 +95,7 @@ impl World {
 
     /// Walks all states that can be reached; answers how many there are.
     fn walk(&self) -> usize {
-        let fresh = vec![0; self.nodes * self.nodes];
+        let fresh = vec![0; self.in_use.len() * self.nodes];
         let mut known = HashSet::from([fresh.clone()]);
         let mut open = vec![fresh];
         while let Some(state) = open.pop() {
@@ -119,7 +153,11 @@ impl World {
     fn has_the_record(&self, state: &[u8], answers: &[u8]) {
         for table in [COMMON_TABLE, [0, 0, 1, 0, 2, 1, 3, 2, 4, 0, 5, 3]] {
             let (mut marks, mut classes) = (vec![0; self.nodes], vec![0; self.nodes]);
-            assert_eq!(record_by(&self.plan, &table, state, &mut marks, &mut classes), 0);
+            let result = match &self.with_desks {
+                Some(plan) => desk_record_by(plan, &table, state, &mut marks, &mut classes),
+                None => record_by(&self.plan, &table, state, &mut marks, &mut classes),
+            };
+            assert_eq!(result, 0);
             assert_eq!(
                 record_of_pass(&self.plan, &table, answers),
                 Ok((marks, classes)),
@@ -146,9 +184,10 @@ impl World {
     }
 }
 
-/// The messages that the guard of this event can notice at its site.
-fn noticed(plan: &[u8], (code, node): (u32, u32)) -> Vec<(u32, u32, u32)> {
-    let site = if code == PICK { u32::from(plan[2 * node as usize + 1]) } else { node };
+/// The messages that the guard of this event can notice where its site is.
+fn noticed(plan: &[u8], desks: &[u8], (code, node): (u32, u32)) -> Vec<(u32, u32, u32)> {
+    let site = if code == PICK { usize::from(plan[2 * node as usize + 1]) } else { node as usize };
+    let site = u32::from(desks[site]);
     let bytes = guard_bytes(plan, code, node);
     let mut found = Vec::new();
     let mut at = 1;
@@ -184,6 +223,35 @@ fn every_plan_of_four_nodes() {
     }
     println!("{count} plans, {states} states");
     assert!(count > 100);
+}
+
+/// With desks: everybody at one, two that share one and the third elsewhere,
+/// and each at one of his own, in an order that is not that of the nodes.
+#[test]
+fn every_plan_of_up_to_three_nodes_with_desks() {
+    let at: [&[u8]; 8] =
+        [&[9], &[4, 4], &[4, 0], &[7, 7, 7], &[7, 7, 2], &[2, 7, 2], &[0x9f, 1, 1], &[2, 0, 1]];
+    let mut states = 0;
+    for plan in (1..=3).flat_map(plans) {
+        for desks in at.into_iter().filter(|desks| 2 * desks.len() == plan.len()) {
+            states += World::with_desks(plan.clone(), desks).walk();
+        }
+    }
+    println!("{states} states");
+}
+
+#[test]
+fn some_larger_plans_with_desks() {
+    let some: [(&str, &[u8]); 5] = [
+        (P, &[3, 8, 3, 8, 1, 1]),
+        (P, &[5, 5, 0, 5, 5, 0]),
+        ("05ff 0500 0100 0101 0101", &[9, 4, 9, 4, 1]),
+        ("05ff 0700 0100 0101 0101", &[2, 0x9f, 2, 0, 0x9f]),
+        ("08ff 0500 0101 0101 0100", &[6, 5, 6, 5, 4]),
+    ];
+    for (plan, desks) in some {
+        println!("{plan} {desks:?}: {} states", World::with_desks(hex(plan), desks).walk());
+    }
 }
 
 /// Larger ones where kinds meet: an xor below each kind, blocks below an xor.

@@ -334,16 +334,6 @@ fn any_entries() {
     }
 }
 
-/// Numbers for the moves below, the same in every run.
-struct Numbers(u32);
-
-impl Numbers {
-    fn below(&mut self, limit: u32) -> u32 {
-        self.0 = self.0.wrapping_mul(1_664_525).wrapping_add(1_013_904_223);
-        (self.0 >> 16) % limit
-    }
-}
-
 /// After every list of moves the state is the one that the remaining steps
 /// give from a fresh start, over a journal that is often full.
 #[test]

@@ -477,16 +477,6 @@ fn faults_on_the_way() {
     }
 }
 
-/// Numbers for the moves below, the same in every run.
-struct Numbers(u32);
-
-impl Numbers {
-    fn below(&mut self, limit: u32) -> u32 {
-        self.0 = self.0.wrapping_mul(1_664_525).wrapping_add(1_013_904_223);
-        (self.0 >> 16) % limit
-    }
-}
-
 /// How often what was met in the lists of moves.
 #[derive(Default, Debug)]
 struct Met {

@@ -2,7 +2,7 @@
 //!
 //! Each takes slices where the C function takes a pointer and a length, and
 //! answers the packed result as it comes: bits 0 to 7 the number (0 passed),
-//! bits 8 to 15 a site (of a guard, its rule), bits 16 to 31 a value.
+//! bits 8 to 15 a site or a desk (of a guard, its rule), bits 16 to 31 a value.
 
 mod raw;
 
@@ -247,6 +247,173 @@ pub fn pass_record(plan: &[u8], table: &[u8], answers: &[u8], marks: &mut [u8], 
             table.len(),
             answers.as_ptr(),
             answers.len(),
+            marks.as_mut_ptr(),
+            marks.len(),
+            classes.as_mut_ptr(),
+            classes.len(),
+        )
+    }
+}
+
+/// Checks a plan with desks.
+pub fn desk_check(plan: &[u8]) -> u32 {
+    // SAFETY: as for `check`.
+    unsafe { raw::vulcedar_desk_check(plan.as_ptr(), plan.len()) }
+}
+
+/// An event at its desk, by the desk's row; the value is the rule of one that
+/// passes.
+pub fn desk_step(plan: &[u8], code: u32, node: u32, row: &mut [u8]) -> u32 {
+    // SAFETY: as for `rewrite`.
+    unsafe { raw::vulcedar_desk_step(plan.as_ptr(), plan.len(), code, node, row.as_mut_ptr(), row.len()) }
+}
+
+/// A step of a simulation with desks: an event if the desk is 255, else a
+/// message to that desk. The value is the rule of an event that passes.
+pub fn desk_simulate(plan: &[u8], code: u32, node: u32, desk: u32, state: &mut [u8]) -> u32 {
+    // SAFETY: as for `rewrite`.
+    unsafe {
+        raw::vulcedar_desk_simulate(
+            plan.as_ptr(),
+            plan.len(),
+            code,
+            node,
+            desk,
+            state.as_mut_ptr(),
+            state.len(),
+        )
+    }
+}
+
+/// A step of a simulation with desks, kept as an entry at the place that the
+/// count has. Answers as `desk_simulate` does.
+pub fn desk_keep(
+    plan: &[u8],
+    code: u32,
+    node: u32,
+    desk: u32,
+    state: &mut [u8],
+    entries: &mut [Entry],
+    count: &mut usize,
+) -> u32 {
+    // SAFETY: as for `rewrite`; the count is lent for writing alone too.
+    unsafe {
+        raw::vulcedar_desk_keep(
+            plan.as_ptr(),
+            plan.len(),
+            code,
+            node,
+            desk,
+            state.as_mut_ptr(),
+            state.len(),
+            entries.as_mut_ptr(),
+            entries.len(),
+            count,
+        )
+    }
+}
+
+/// Takes the last kept step back, in a plan with desks.
+pub fn desk_undo(plan: &[u8], state: &mut [u8], entries: &[Entry], count: &mut usize) -> u32 {
+    // SAFETY: as for `keep`.
+    unsafe {
+        raw::vulcedar_desk_undo(
+            plan.as_ptr(),
+            plan.len(),
+            state.as_mut_ptr(),
+            state.len(),
+            entries.as_ptr(),
+            entries.len(),
+            count,
+        )
+    }
+}
+
+/// The same, and drops the points past the new count.
+pub fn desk_point_undo(
+    plan: &[u8],
+    state: &mut [u8],
+    entries: &[Entry],
+    count: &mut usize,
+    names: &mut [u8],
+    places: &mut [u64],
+) -> u32 {
+    // SAFETY: as for `keep`.
+    unsafe {
+        raw::vulcedar_desk_point_undo(
+            plan.as_ptr(),
+            plan.len(),
+            state.as_mut_ptr(),
+            state.len(),
+            entries.as_ptr(),
+            entries.len(),
+            count,
+            names.as_mut_ptr(),
+            names.len(),
+            places.as_mut_ptr(),
+            places.len(),
+        )
+    }
+}
+
+/// Goes back to the point of a name, in a plan with desks.
+pub fn desk_point_back(
+    plan: &[u8],
+    name: &[u8],
+    state: &mut [u8],
+    entries: &[Entry],
+    count: &mut usize,
+    names: &mut [u8],
+    places: &mut [u64],
+) -> u32 {
+    // SAFETY: as for `keep`.
+    unsafe {
+        raw::vulcedar_desk_point_back(
+            plan.as_ptr(),
+            plan.len(),
+            name.as_ptr(),
+            name.len(),
+            state.as_mut_ptr(),
+            state.len(),
+            entries.as_ptr(),
+            entries.len(),
+            count,
+            names.as_mut_ptr(),
+            names.len(),
+            places.as_mut_ptr(),
+            places.len(),
+        )
+    }
+}
+
+/// The end record of a state of a plan with desks.
+pub fn desk_record(plan: &[u8], state: &[u8], marks: &mut [u8], classes: &mut [u8]) -> u32 {
+    // SAFETY: as for `rewrite`.
+    unsafe {
+        raw::vulcedar_desk_record(
+            plan.as_ptr(),
+            plan.len(),
+            state.as_ptr(),
+            state.len(),
+            marks.as_mut_ptr(),
+            marks.len(),
+            classes.as_mut_ptr(),
+            classes.len(),
+        )
+    }
+}
+
+/// The same by a table of classes that is handed in.
+pub fn desk_record_by(plan: &[u8], table: &[u8], state: &[u8], marks: &mut [u8], classes: &mut [u8]) -> u32 {
+    // SAFETY: as for `rewrite`.
+    unsafe {
+        raw::vulcedar_desk_record_by(
+            plan.as_ptr(),
+            plan.len(),
+            table.as_ptr(),
+            table.len(),
+            state.as_ptr(),
+            state.len(),
             marks.as_mut_ptr(),
             marks.len(),
             classes.as_mut_ptr(),

@@ -165,6 +165,104 @@ unsafe extern "C" {
         classes_length: usize,
     ) -> u32;
 
+    pub fn vulcedar_desk_check(plan: *const u8, plan_length: usize) -> u32;
+
+    pub fn vulcedar_desk_step(
+        plan: *const u8,
+        plan_length: usize,
+        code: u32,
+        node: u32,
+        row: *mut u8,
+        row_length: usize,
+    ) -> u32;
+
+    pub fn vulcedar_desk_simulate(
+        plan: *const u8,
+        plan_length: usize,
+        code: u32,
+        node: u32,
+        desk: u32,
+        state: *mut u8,
+        state_length: usize,
+    ) -> u32;
+
+    pub fn vulcedar_desk_keep(
+        plan: *const u8,
+        plan_length: usize,
+        code: u32,
+        node: u32,
+        desk: u32,
+        state: *mut u8,
+        state_length: usize,
+        entries: *mut Entry,
+        entries_length: usize,
+        count: *mut usize,
+    ) -> u32;
+
+    pub fn vulcedar_desk_undo(
+        plan: *const u8,
+        plan_length: usize,
+        state: *mut u8,
+        state_length: usize,
+        entries: *const Entry,
+        entries_length: usize,
+        count: *mut usize,
+    ) -> u32;
+
+    pub fn vulcedar_desk_point_undo(
+        plan: *const u8,
+        plan_length: usize,
+        state: *mut u8,
+        state_length: usize,
+        entries: *const Entry,
+        entries_length: usize,
+        count: *mut usize,
+        names: *mut u8,
+        names_length: usize,
+        places: *mut u64,
+        places_length: usize,
+    ) -> u32;
+
+    pub fn vulcedar_desk_point_back(
+        plan: *const u8,
+        plan_length: usize,
+        name: *const u8,
+        name_length: usize,
+        state: *mut u8,
+        state_length: usize,
+        entries: *const Entry,
+        entries_length: usize,
+        count: *mut usize,
+        names: *mut u8,
+        names_length: usize,
+        places: *mut u64,
+        places_length: usize,
+    ) -> u32;
+
+    pub fn vulcedar_desk_record(
+        plan: *const u8,
+        plan_length: usize,
+        state: *const u8,
+        state_length: usize,
+        marks: *mut u8,
+        marks_length: usize,
+        classes: *mut u8,
+        classes_length: usize,
+    ) -> u32;
+
+    pub fn vulcedar_desk_record_by(
+        plan: *const u8,
+        plan_length: usize,
+        table: *const u8,
+        table_length: usize,
+        state: *const u8,
+        state_length: usize,
+        marks: *mut u8,
+        marks_length: usize,
+        classes: *mut u8,
+        classes_length: usize,
+    ) -> u32;
+
     pub fn vulcedar_rehearse(text: *const u8, text_length: usize, out: *mut u8, out_length: usize) -> u32;
 
     pub safe fn vulcedar_version() -> u32;

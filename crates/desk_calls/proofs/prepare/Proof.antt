@@ -1,5 +1,5 @@
 -- The check, then the rows of the desks, then every node's. Assumes nothing.
-use mathlib.Core.Path.{_≡_, sym, _∙_, ap}
+use mathlib.Core.Path.{sym, _∙_, ap}
 use lib.ListN.{length}
 use Rattle.lists.proofs.Table.{table-length}
 use Rattle.desks.specs.Desk.{DeskAccepted}

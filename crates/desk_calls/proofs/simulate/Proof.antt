@@ -1,8 +1,7 @@
 -- The check, the length, and then the layout of the desks. Assumes nothing.
-use mathlib.Core.Path.{_≡_, sym, _∙_, ap}
+use mathlib.Core.Path.{sym, _∙_, ap}
 use native.Mathlib.Omega.{arith}
 use Rattle.job.specs.Simulation.{simulated}
-use Rattle.desk_calls.specs.Tables.{Prepared}
 use Rattle.desk_calls.proofs.PrepareLaws.{nodes-few, front-is, front-length, front-room}
 use Rattle.desk_calls.proofs.CallLaws.{simulate-refused, length-few, simulate-wrong, prepared-laid, simulate-done}
 use borrow.Author.Needs.{needs}

@@ -1,17 +1,12 @@
 //! The calls with points, with one mistake each. A mistake of the take-back
 //! without points is made here too.
 
+use super::step_of;
 use super::{Broken, Mistake};
 use crate::codes::{HAPPENS, PICK, number};
-use crate::implementation::{Entry, Implementation, Reference, Slots};
+use crate::form::{Form, Kept};
+use crate::implementation::{Entry, Reference, Slots};
 use crate::slots::SLOTS;
-
-/// What a take-back or a going back is lent beside the plan and the slots.
-pub struct Lent<'a> {
-    pub state: &'a mut [u8],
-    pub entries: &'a mut [Entry],
-    pub count: &'a mut usize,
-}
 
 /// Names the place at the count.
 pub fn name(mistake: Mistake, name: &[u8], count: usize, slots: Slots) -> u32 {
@@ -53,16 +48,21 @@ pub fn name(mistake: Mistake, name: &[u8], count: usize, slots: Slots) -> u32 {
 }
 
 /// Takes the last step back, and drops points.
-pub fn undo(broken: &mut Broken, plan: &[u8], lent: Lent, slots: Slots) -> u32 {
+pub fn undo(
+    broken: &mut Broken,
+    form: Form,
+    plan: &[u8],
+    (state, entries, count): Kept,
+    slots: Slots,
+) -> u32 {
     let mistake = broken.mistake;
     let mut view = View { mistake, slots };
-    let Lent { state, entries, count } = lent;
     let (mut after, mut left, mut counted) = (state.to_vec(), entries.to_vec(), *count);
-    let result = broken.undo(plan, &mut after, &mut left, &mut counted);
+    let result = broken.undo_in(form, plan, (&mut after, &mut left, &mut counted));
     let is_first = match result {
         16 => mistake == Mistake::NoStepBeforePoints,
         8 | 9 => mistake == Mistake::EntryBeforePoints,
-        _ => (1..=7).contains(&result),
+        _ => matches!(result, 1..=7 | 22),
     };
     if is_first {
         return result;
@@ -79,21 +79,32 @@ pub fn undo(broken: &mut Broken, plan: &[u8], lent: Lent, slots: Slots) -> u32 {
     state.copy_from_slice(&after);
     entries.copy_from_slice(&left);
     *count = counted;
-    if mistake != Mistake::TakeBackDropsNothing {
+    let drops = match mistake {
+        Mistake::TakeBackDropsNothing => false,
+        Mistake::DeskTakeBackDropsNothing => form == Form::Plain,
+        _ => true,
+    };
+    if drops {
         view.drop_past(counted);
     }
     result
 }
 
 /// Goes back to a name.
-pub fn back(broken: &mut Broken, plan: &[u8], name: &[u8], lent: Lent, slots: Slots) -> u32 {
+pub fn back(
+    broken: &mut Broken,
+    form: Form,
+    plan: &[u8],
+    name: &[u8],
+    (state, entries, count): Kept,
+    slots: Slots,
+) -> u32 {
     let mistake = broken.mistake;
-    let nodes = plan.len() / 2;
-    let checked = Reference.check(plan);
+    let checked = form.check(&mut Reference, plan);
     if checked != 0 {
         return checked;
     }
-    if lent.state.len() != nodes * nodes || *lent.count > lent.entries.len() {
+    if state.len() != form.state_length(plan) || *count > entries.len() {
         return 7;
     }
     let mut view = View { mistake, slots };
@@ -107,27 +118,32 @@ pub fn back(broken: &mut Broken, plan: &[u8], name: &[u8], lent: Lent, slots: Sl
     if mistake == Mistake::UnknownBeforePoints && found.is_none() && is_eight {
         return 19;
     }
-    if !view.is_right(*lent.count) || !is_eight {
+    if !view.is_right(*count) || !is_eight {
         return 7;
     }
     let Some(slot) = found else {
-        let last = lent.count.checked_sub(1).map(|place| lent.entries[place]);
-        let fault = last.map_or(0, |entry| fault(plan, entry));
+        let last = count.checked_sub(1).map(|place| entries[place]);
+        let fault = last.map_or(0, |entry| fault(form, plan, entry));
         return if mistake == Mistake::UnknownAfterEntries && fault != 0 { fault } else { 19 };
     };
-    let place = (view.word(slot).saturating_sub(1) as usize).min(*lent.count);
+    let place = (view.word(slot).saturating_sub(1) as usize).min(*count);
     let place = match mistake {
-        Mistake::BackStopsOneEarly => (place + 1).min(*lent.count),
+        Mistake::BackStopsOneEarly => (place + 1).min(*count),
         Mistake::BackOneTooFar => place.saturating_sub(1),
-        Mistake::BackToHereRefused if place == *lent.count => return 16,
-        Mistake::BackFromNoStepRefused if *lent.count == 0 => return 16,
+        Mistake::BackToHereRefused if place == *count => return 16,
+        Mistake::BackFromNoStepRefused if *count == 0 => return 16,
         _ => place,
     };
-    let result = go(broken, plan, place, lent);
+    let result = go(broken, form, plan, place, (state, entries, count));
     if number(result) != 0 {
         return result;
     }
-    if mistake != Mistake::BackDropsNothing {
+    let drops = match mistake {
+        Mistake::BackDropsNothing => false,
+        Mistake::DeskBackDropsNothing => form == Form::Plain,
+        _ => true,
+    };
+    if drops {
         view.drop_past(place);
     }
     if mistake == Mistake::BackDropsItsPoint {
@@ -137,13 +153,12 @@ pub fn back(broken: &mut Broken, plan: &[u8], name: &[u8], lent: Lent, slots: Sl
 }
 
 /// Takes back the steps behind a place, or none; answers the number.
-fn go(broken: &mut Broken, plan: &[u8], place: usize, lent: Lent) -> u32 {
+fn go(broken: &mut Broken, form: Form, plan: &[u8], place: usize, (state, entries, count): Kept) -> u32 {
     let mistake = broken.mistake;
-    let Lent { state, entries, count } = lent;
     let way = place..*count;
     let is_trusted = |entry: &Entry| mistake == Mistake::BackTrustsRepeats && entry[3] == 0;
     let faults = |range: std::ops::Range<usize>| {
-        let of_entry = |entry: &Entry| if is_trusted(entry) { 0 } else { fault(plan, *entry) };
+        let of_entry = |entry: &Entry| if is_trusted(entry) { 0 } else { fault(form, plan, *entry) };
         let faults: Vec<u32> =
             entries[range].iter().rev().map(of_entry).filter(|&number| number != 0).collect();
         faults
@@ -161,8 +176,9 @@ fn go(broken: &mut Broken, plan: &[u8], place: usize, lent: Lent) -> u32 {
     }
     let (before, counted) = (state.to_vec(), *count);
     for at in way.clone().rev() {
-        let entry = misread(mistake, plan, entries[at]);
-        let result = if is_trusted(&entry) { 0 } else { broken.undo(plan, state, &mut [entry], &mut 1) };
+        let entry = misread(mistake, form, plan, entries[at]);
+        let kept = (&mut *state, &mut [entry][..], &mut 1);
+        let result = if is_trusted(&entry) { 0 } else { broken.undo_in(form, plan, kept) };
         if number(result) != 0 {
             if mistake != Mistake::BackHalfUndone {
                 state.copy_from_slice(&before);
@@ -175,8 +191,8 @@ fn go(broken: &mut Broken, plan: &[u8], place: usize, lent: Lent) -> u32 {
     match mistake {
         Mistake::BackReplays => {
             state.fill(0);
-            for &[code, node, site, _] in &entries[..place] {
-                Reference.simulate(plan, code.into(), node.into(), site.into(), state);
+            for &entry in &entries[..place] {
+                form.simulate(&mut Reference, plan, step_of(entry), state);
             }
         }
         Mistake::BackRewritesEntries => entries[way].fill([0; 4]),
@@ -188,14 +204,14 @@ fn go(broken: &mut Broken, plan: &[u8], place: usize, lent: Lent) -> u32 {
 }
 
 /// What the mistake makes of an entry that is taken back on the way.
-fn misread(mistake: Mistake, plan: &[u8], [code, node, site, changed]: Entry) -> Entry {
+fn misread(mistake: Mistake, form: Form, plan: &[u8], [code, node, site, changed]: Entry) -> Entry {
     let happens = u32::from(site) == HAPPENS;
     let is_pick = u32::from(code) == PICK && happens;
     match mistake {
         Mistake::BackClearsRepeats => [code, node, site, 1],
         Mistake::BackOnlyIfOne => [code, node, site, u8::from(changed == 1)],
-        Mistake::BackPickAtTheChild if is_pick => [code, node, node, changed],
-        Mistake::BackMessageAtTheEvent if !happens && usize::from(site) < plan.len() / 2 => {
+        Mistake::BackPickAtTheChild if is_pick => [code, node, form.seat(plan, node.into()) as u8, changed],
+        Mistake::BackMessageAtTheEvent if !happens && form.row(plan, site.into()).is_some() => {
             [code, node, HAPPENS as u8, changed]
         }
         _ => [code, node, site, changed],
@@ -203,9 +219,9 @@ fn misread(mistake: Mistake, plan: &[u8], [code, node, site, changed]: Entry) ->
 }
 
 /// What an entry's take-back is refused for.
-fn fault(plan: &[u8], entry: Entry) -> u32 {
-    let nodes = plan.len() / 2;
-    Reference.undo(plan, &mut vec![0; nodes * nodes], &mut [entry], &mut 1)
+fn fault(form: Form, plan: &[u8], entry: Entry) -> u32 {
+    let mut state = vec![0; form.state_length(plan)];
+    form.undo(&mut Reference, plan, (&mut state, &mut [entry], &mut 1))
 }
 
 /// Slots as the mistake reads them.

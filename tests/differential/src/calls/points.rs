@@ -1,8 +1,9 @@
 //! Single calls with points: any slots, names, counts and entries.
 
-use super::{any_count, any_entries, event, heard, length, state_bytes};
+use super::{any_count, any_entries, any_seat, event, heard, length, state_bytes};
 use crate::codes::HAPPENS;
 use crate::driver::Tree;
+use crate::form::Form;
 use crate::implementation::{Entry, Implementation};
 use crate::plans;
 use crate::random::Random;
@@ -10,65 +11,86 @@ use crate::slots::{self, Name, SLOTS};
 use crate::trial::Trial;
 
 /// The three calls on any state of a valid plan; then on plans that are mostly
-/// refused, with buffers of any length.
+/// refused, with buffers of any length. So many rounds of each.
 pub fn points<S: Implementation, R: Implementation>(
     trial: &mut Trial<S, R>,
     random: &mut Random,
     plan: &[u8],
+    rounds: usize,
 ) {
-    let nodes = plan.len() / 2;
-    let tree = Tree::new(plan);
-    for _ in 0..40 {
-        let state = heard(random, nodes * nodes);
+    let form = trial.form;
+    for _ in 0..rounds {
+        let state = heard(random, form.state_length(plan));
         for _ in 0..3 {
-            let (entries, count) = any_journal(random, &tree);
+            let (entries, count) = any_journal(random, form, plan);
             try_all(trial, random, plan, &state, (&entries, count));
         }
     }
-    for _ in 0..40 {
-        let damaged = if random.chance(80) { plans::damaged(random) } else { plan.to_vec() };
-        let nodes = damaged.len() / 2;
-        let state = state_bytes(random, nodes);
-        let (entries, count) = any_entries(random, |random| event(random, nodes), nodes);
+    for _ in 0..rounds {
+        let damaged = match form {
+            _ if !random.chance(80) => plan.to_vec(),
+            Form::Plain => plans::damaged(random),
+            Form::Desks => plans::damaged_with_desks(random),
+        };
+        let nodes = form.nodes(&damaged);
+        let state = state_bytes(random, form, &damaged);
+        let (entries, count) =
+            any_entries(random, |random| event(random, nodes), |random| any_seat(random, form, &damaged));
         try_all(trial, random, &damaged, &state, (&entries, count));
     }
 }
 
-fn try_all<S: Implementation, R: Implementation>(
+/// The calls with points on one journal, with any slots and name; answers the
+/// results of those two that take a plan.
+pub(super) fn try_all<S: Implementation, R: Implementation>(
     trial: &mut Trial<S, R>,
     random: &mut Random,
     plan: &[u8],
     state: &[u8],
     journal: (&[Entry], usize),
-) {
+) -> [u32; 2] {
     let Lot { names, places, pool } = Lot::any(random, journal.1);
     let name = any_name(random, &names, &places, &pool);
     trial.point_name(&name, journal.1, &names, &places);
-    trial.point_undo(plan, state, journal, (&names, &places));
-    trial.point_back(plan, &name, state, journal, (&names, &places));
+    [
+        trial.point_undo(plan, state, journal, (&names, &places)),
+        trial.point_back(plan, &name, state, journal, (&names, &places)),
+    ]
 }
 
 /// Entries with no, few or many that would be refused, and any count; often
 /// all entries are counted.
-fn any_journal(random: &mut Random, tree: &Tree) -> (Vec<Entry>, usize) {
-    let nodes = tree.children.len();
+fn any_journal(random: &mut Random, form: Form, plan: &[u8]) -> (Vec<Entry>, usize) {
+    let tree = Tree::new(&form.plain(plan));
+    let seat = |random: &mut Random| form.seat(plan, random.below(form.nodes(plan)));
+    let nobody = match form {
+        Form::Plain => form.nodes(plan),
+        Form::Desks => (0..0xff).find(|&desk| form.row(plan, desk).is_none()).unwrap_or(0xa0) as usize,
+    };
     let faults = random.one_of(&[0, 0, 10, 40]);
-    let entries: Vec<Entry> = (0..random.below(14)).map(|_| any_entry(random, tree, nodes, faults)).collect();
+    let entries: Vec<Entry> =
+        (0..random.below(14)).map(|_| any_entry(random, &tree, (seat, nobody), faults)).collect();
     let count = if random.chance(50) { entries.len() } else { any_count(random, entries.len()) };
     (entries, count)
 }
 
 /// An entry that is refused with 8 or 9 in so many cases of a hundred.
-fn any_entry(random: &mut Random, tree: &Tree, nodes: usize, faults: usize) -> Entry {
+fn any_entry(
+    random: &mut Random,
+    tree: &Tree,
+    (seat, nobody): (impl Fn(&mut Random) -> u32, usize),
+    faults: usize,
+) -> Entry {
+    let nodes = tree.children.len();
     let node = random.below(nodes);
     let (apply, others): (Vec<u32>, Vec<u32>) = (1..=8).partition(|&code| tree.applies(code, node));
-    let site = if random.chance(50) { HAPPENS as usize } else { random.below(nodes) };
+    let site = if random.chance(50) { HAPPENS as usize } else { seat(random) as usize };
     let changed = random.one_of(&[0, 0, 1, 1, 1, 2, 0x80, 0xff]);
     let is_fault = random.chance(faults);
     let (code, node, site) = match random.below(6) {
         0 if is_fault => (random.one_of(&[0, 9, 0xff]), node, site),
         1 if is_fault => (random.one_of(&apply), nodes, site),
-        2 if is_fault => (random.one_of(&apply), node, nodes),
+        2 if is_fault => (random.one_of(&apply), node, nobody),
         _ if is_fault && !others.is_empty() => (random.one_of(&others), node, site),
         _ => (random.one_of(&apply), node, site),
     };
@@ -117,6 +139,12 @@ impl Lot {
         }
         Lot { names, places, pool }
     }
+}
+
+/// Any slots for this count, names and places.
+pub(super) fn any_slots(random: &mut Random, count: usize) -> (Vec<u8>, Vec<u64>) {
+    let Lot { names, places, .. } = Lot::any(random, count);
+    (names, places)
 }
 
 /// Other lengths: of one of both, or of both alike.

@@ -20,35 +20,35 @@ const fn letter(letter: u8) -> Name {
     [letter; 8]
 }
 
-const A: Name = letter(b'a');
-const B: Name = letter(b'b');
-const C: Name = letter(b'c');
+pub(super) const A: Name = letter(b'a');
+pub(super) const B: Name = letter(b'b');
+pub(super) const C: Name = letter(b'c');
 const D: Name = letter(b'd');
 /// What stands in names that nobody gave.
 const LEFT: Name = letter(9);
 
 /// Lent slots.
 #[derive(Clone, Debug, PartialEq)]
-struct Lot {
+pub(super) struct Lot {
     names: Vec<u8>,
     places: Vec<u64>,
 }
 
 impl Lot {
     /// Free slots over names that nobody gave.
-    fn free() -> Lot {
+    pub(super) fn free() -> Lot {
         Lot { names: LEFT.repeat(SLOTS), places: vec![0; SLOTS] }
     }
 
     /// The same with a name and a word in a slot.
-    fn with(mut self, slot: usize, name: Name, word: u64) -> Lot {
+    pub(super) fn with(mut self, slot: usize, name: Name, word: u64) -> Lot {
         self.names.splice(8 * slot..8 * slot + 8, name);
         self.places[slot] = word;
         self
     }
 
     /// The same with slots that have been dropped.
-    fn without(self, slots: &[usize]) -> Lot {
+    pub(super) fn without(self, slots: &[usize]) -> Lot {
         slots.iter().fold(self, |lot, &slot| lot.with(slot, [0; 8], 0))
     }
 
@@ -57,18 +57,18 @@ impl Lot {
         (0..SLOTS).fold(Lot::free(), |lot, slot| lot.with(slot, letter(slot as u8), 1))
     }
 
-    fn slots(&mut self) -> Slots<'_> {
+    pub(super) fn slots(&mut self) -> Slots<'_> {
         Slots { names: &mut self.names, places: &mut self.places }
     }
 
-    fn describe(&self) -> String {
+    pub(super) fn describe(&self) -> String {
         format!("names {} places {:?}", hex(&self.names), self.places)
     }
 }
 
 /// A move with points.
 #[derive(Debug)]
-enum Move {
+pub(super) enum Move {
     Keep(u32, u32, u32),
     Undo,
     Name(Name),

@@ -5,7 +5,7 @@
 
 use super::{Moves, Parted};
 use crate::implementation::Implementation;
-use crate::lent::{Journal, Pair, Points};
+use crate::lent::{Journal, Points};
 use crate::random::Random;
 use crate::slots::{self, Name, SLOTS};
 use crate::trial::{Trial, hex};
@@ -198,9 +198,7 @@ impl<S: Implementation, R: Implementation> Pointed<'_, S, R> {
     /// The state after each number of steps that remain, simulated from a
     /// fresh start.
     fn states_from_fresh(&mut self) -> Result<Vec<Vec<u8>>, Parted> {
-        let nodes = self.moves.plan.len() / 2;
-        let mut state = Pair::default();
-        state.load(&vec![0; nodes * nodes]);
+        let mut state = self.moves.fresh_state();
         let mut states = vec![state.before().to_vec()];
         for place in 0..self.moves.steps.len() {
             let (step, _) = self.moves.steps[place];

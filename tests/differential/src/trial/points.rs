@@ -98,12 +98,12 @@ impl<S: Implementation, R: Implementation> Trial<S, R> {
     /// A take-back with points, on what goes on; answers also whether both
     /// sides came to the same.
     pub fn point_undo_on(&mut self, plan: &[u8], journal: &mut Journal, points: &mut Points) -> (u32, bool) {
+        let form = self.form;
         self.plan.load(plan);
         let expected = self.left_by_undo(plan, journal, points);
-        let (state, entries, count) = journal.subject();
-        let theirs = self.subject.point_undo(self.plan.bytes(), state, entries, count, points.subject());
-        let (state, entries, count) = journal.reference();
-        let ours = self.reference.point_undo(plan, state, entries, count, points.reference());
+        let theirs =
+            form.point_undo(&mut self.subject, self.plan.bytes(), journal.subject(), points.subject());
+        let ours = form.point_undo(&mut self.reference, plan, journal.reference(), points.reference());
         let right = Left::is_met(expected.as_ref().map_err(|number| *number), theirs, journal, points);
         let fine = self.judge_points(Function::PointUndo, plan, &[], journal, points, (ours, theirs, right));
         (ours, fine)
@@ -132,14 +132,14 @@ impl<S: Implementation, R: Implementation> Trial<S, R> {
         journal: &mut Journal,
         points: &mut Points,
     ) -> (u32, bool) {
+        let form = self.form;
         self.plan.load(plan);
         self.read.load(name);
         let expected = self.left_by_back(plan, name, journal, points);
-        let (state, entries, count) = journal.subject();
         let (plan_lent, name_lent) = (self.plan.bytes(), self.read.bytes());
-        let theirs = self.subject.point_back(plan_lent, name_lent, state, entries, count, points.subject());
-        let (state, entries, count) = journal.reference();
-        let ours = self.reference.point_back(plan, name, state, entries, count, points.reference());
+        let theirs =
+            form.point_back(&mut self.subject, plan_lent, name_lent, journal.subject(), points.subject());
+        let ours = form.point_back(&mut self.reference, plan, name, journal.reference(), points.reference());
         let right = Left::is_met(expected.as_ref().map_err(|number| *number), theirs, journal, points)
             && self.read.is_still(name);
         let fine = self.judge_points(Function::PointBack, plan, name, journal, points, (ours, theirs, right));
@@ -170,10 +170,11 @@ impl<S: Implementation, R: Implementation> Trial<S, R> {
     fn left_by_undo(&mut self, plan: &[u8], journal: &Journal, points: &Points) -> Result<Left, u32> {
         let mut left = Left::before(journal);
         let mut entries = journal.entries().to_vec();
-        let result = self.subject.undo(plan, &mut left.state, &mut entries, &mut left.count);
+        let kept = (&mut left.state[..], &mut entries[..], &mut left.count);
+        let result = self.form.undo(&mut self.subject, plan, kept);
         let (names, places) = (points.names.before(), points.places.before());
         match result {
-            1..=7 => Err(result),
+            1..=7 | 22 => Err(result),
             _ if slots::right(names, places, journal.count.before()).is_none() => Err(7),
             0 => {
                 left.slots = slots::after_drop(left.count, names, places);
@@ -192,22 +193,24 @@ impl<S: Implementation, R: Implementation> Trial<S, R> {
         journal: &Journal,
         points: &Points,
     ) -> Result<Left, u32> {
-        let checked = self.subject.check(plan);
+        let form = self.form;
+        let checked = form.check(&mut self.subject, plan);
         if checked != 0 {
             return Err(checked);
         }
-        let nodes = plan.len() / 2;
         let count = journal.count.before();
         let (names, places) = (points.names.before(), points.places.before());
         let points = slots::right(names, places, count).ok_or(7u32)?;
-        if journal.state.length() != nodes * nodes || count > journal.entries().len() || name.len() != 8 {
+        let has_rows = journal.state.length() == form.state_length(plan);
+        if !has_rows || count > journal.entries().len() || name.len() != 8 {
             return Err(7);
         }
         let place = *points.get(name).ok_or(19u32)? as usize;
         let mut left = Left::before(journal);
         let mut entries = journal.entries().to_vec();
         for _ in place..count {
-            match self.subject.undo(plan, &mut left.state, &mut entries, &mut left.count) {
+            let kept = (&mut left.state[..], &mut entries[..], &mut left.count);
+            match form.undo(&mut self.subject, plan, kept) {
                 0 => {}
                 refused => return Err(refused),
             }
@@ -236,6 +239,7 @@ impl<S: Implementation, R: Implementation> Trial<S, R> {
             &words,
         ];
         let numbers = &[short_number(journal.count.before())];
+        let function = self.form.function(function);
         let fine = self.judge(Call { function, plan, numbers, lent }, ours, theirs, right);
         journal.state.keep_all();
         journal.count.keep();

@@ -60,6 +60,18 @@ pub fn plan_of(nodes: usize) -> Vec<u8> {
     plan
 }
 
+/// A plan with a desk for each node.
+pub fn at_desks(plan: &[u8], desks: &[u8]) -> Vec<u8> {
+    assert_eq!(plan.len(), 2 * desks.len());
+    plan.chunks(2).zip(desks).flat_map(|(node, &desk)| [node[0], node[1], desk]).collect()
+}
+
+/// A plan in which every node has its own number for a desk.
+pub fn at_own_desks(plan: &[u8]) -> Vec<u8> {
+    let own: Vec<u8> = (0..plan.len() / 2).map(|node| node as u8).collect();
+    at_desks(plan, &own)
+}
+
 /// All valid plans with so many nodes.
 pub fn plans(nodes: usize) -> Vec<Vec<u8>> {
     let mut open = vec![Vec::new()];
@@ -175,5 +187,19 @@ impl Simulation {
         assert_eq!(exported::record_by(&self.plan, table, &self.state, &mut marks, &mut classes), 0);
         assert_eq!(marks, self.marks());
         classes
+    }
+}
+
+/// Numbers that are the same in every run.
+pub struct Numbers(pub u32);
+
+impl Numbers {
+    pub fn below(&mut self, limit: u32) -> u32 {
+        self.0 = self.0.wrapping_mul(1_664_525).wrapping_add(1_013_904_223);
+        (self.0 >> 16) % limit
+    }
+
+    pub fn bytes(&mut self, length: usize) -> Vec<u8> {
+        (0..length).map(|_| self.below(256) as u8).collect()
     }
 }
