@@ -194,9 +194,9 @@ pub record Demand1 : Type 0 where
   pub accepted : (p : List ℕ) → Accepted p → AcceptedPass p
   -- M2, M3: vulcedar_point_name, which takes no plan, with right points
   pub point-name : (name : List ℕ) (k : ℕ) (ns ps : List ℕ) → length name ≡ 8 → k < 18446744073709551615 → PointsRight ns ps k → Later (nameOf name k ns ps .number)
-  -- N2: and with desks, every one within the limits, and no other
+  -- N2: the check of plans with desks passes every one within the limits, and no other
   pub desk-exact : DeskCheckExact
-  -- N6: the calls on them
+  -- N6: and the calls on them
   pub desk-accepted : (p : List ℕ) → DeskAccepted p → DeskAcceptedPass p
   -- H0
   pub refused : RefusalsLeave
