@@ -1,11 +1,11 @@
 -- What is prepared: the check's number, the rows of the desks, and every node's row. Assumes nothing.
 use mathlib.Core.Path.{_≡_, refl, sym, _∙_, ap, subst}
-use mathlib.Core.Bool.{Bool, true, false, cond, _&&_, not}
+use mathlib.Core.Bool.{Bool, true, false, cond, _&&_}
 use mathlib.Core.List.{List}
 use Prim.Native.Nat.{ℕ, zero, suc, _+_, _-_, _*_, _%_, _≤_, _<_}
 use native.Mathlib.Nat.{le-antisymm}
 use native.Mathlib.Omega.{arith}
-use borrow.Author.Tests.{ltb-false, leb-true, ne-eqb, le-leb, lt-leb, not-true, not-false}
+use borrow.Author.Tests.{ltb-false, leb-true, ne-eqb, le-leb, lt-leb}
 use lib.Dec.{eqb, ltb, leb}
 use lib.ListN.{length, getD, take, length-take}
 use Rattle.lists.specs.Seq.{upFrom, table}
@@ -20,13 +20,6 @@ use Rattle.desks.proofs.DeskLaws.{same-nodes}
 use Rattle.desks.proofs.RankLaws.{rank-end}
 use Rattle.desk_calls.specs.Tables.{isMarked, markedBelow, numberedByte, markOf, rowByte}
 use Rattle.desk_calls.proofs.SplitLaws.{fill-front}
-
--- an answer r of the code says that its test passed, or failed
-pub passed : (r t : Bool) → r ≡ t → not r ≡ false → t ≡ true
-passed r t e h = sym e ∙ not-false r h
-
-pub not-passed : (r t : Bool) → r ≡ t → not r ≡ true → t ≡ false
-not-passed r t e h = sym e ∙ not-true r h
 
 -- THE CHECK, test by test
 pub threes-few : (p : List ℕ) → threes p ≡ true → nodes p ≤ 160

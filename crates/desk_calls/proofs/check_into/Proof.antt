@@ -3,8 +3,9 @@ use mathlib.Core.Path.{_≡_, _∙_, ap}
 use mathlib.Core.Bool.{true}
 use native.Mathlib.Omega.{arith}
 use Rattle.plan.specs.Check.{checkNumber}
+use Rattle.checker.proofs.TestLaws.{passed, failed}
 use Rattle.desks.specs.Desk.{plain, threes}
-use Rattle.desk_calls.proofs.PrepareLaws.{passed, not-passed, threes-few, front-is, front-length, front-room, check-1, check-plain, check-22, check-0}
+use Rattle.desk_calls.proofs.PrepareLaws.{threes-few, front-is, front-length, front-room, check-1, check-plain, check-22, check-0}
 use borrow.Author.Needs.{needs}
 use Rattle.desk_calls.proofs.check_into.Statement.{statement}
 use Rattle.desk_calls.proofs.check_into.Tie as tie
@@ -19,7 +20,7 @@ length-ok-requires : tie.Need-length-ok-requires
 length-ok-requires c κs = search needs
 
 returns : tie.Need-returns
-returns c = (check-1 _ (not-passed _ _ (c .before .length-ok .ensures) (c .if1 .taken)), λ e. absurd (omega arith))
+returns c = (check-1 _ (failed _ _ (c .before .length-ok .ensures) (c .if1 .taken)), λ e. absurd (omega arith))
 
 split-requires : tie.Need-split-requires
 split-requires c κs = (c .before .before .before .before .before .before .before .pre .0, threes-few _ (long (c .before .before)), c .before .before .before .before .before .before .before .pre .1)
