@@ -1,5 +1,5 @@
 /*
- * Vulcedar 1.3.0: jobs that follow a plan, decided by the sites that do the work.
+ * Vulcedar 1.4.0: jobs that follow a plan, decided by the sites that do the work.
  *
  * A plan is a tree of tasks and blocks. Every node has a site; a site keeps one row of bytes, what it has heard, and
  * decides the events of its node from that row alone. This header is all that a host needs; docs/GUIDE.md shows how a
@@ -90,7 +90,7 @@ extern "C" {
 
 /* The version of this header. vulcedar_version() is that of the library that is linked. */
 #define VULCEDAR_VERSION_MAJOR 1
-#define VULCEDAR_VERSION_MINOR 3
+#define VULCEDAR_VERSION_MINOR 4
 #define VULCEDAR_VERSION_PATCH 0
 #define VULCEDAR_VERSION (65536u * VULCEDAR_VERSION_MAJOR + 256u * VULCEDAR_VERSION_MINOR + VULCEDAR_VERSION_PATCH)
 
@@ -142,18 +142,19 @@ enum vulcedar_number {
     VULCEDAR_TOO_DEEP = 6,         /* a node lies deeper than 32 */
     VULCEDAR_BAD_BUFFER = 7,       /* a buffer has not the length that the call says, a journal is full, or points are not right */
     VULCEDAR_NOT_IN_PLAN = 8,      /* there is no such code, or the plan has no such node or site, or the desk is not in use */
-    VULCEDAR_NOT_APPLICABLE = 9,   /* the node has no such event */
+    VULCEDAR_NOT_APPLICABLE = 9,   /* the node has no such event; vulcedar_impact: it is no task */
     VULCEDAR_BARRED = 10,          /* it happened already, or something that rules it out did; this will not change, unless a step is taken back */
     VULCEDAR_UNMET = 11,           /* the site has not heard all that the event waits for; this may change */
     VULCEDAR_NOT_HAPPENED = 12,    /* simulation: the message tells of something that did not happen */
-    VULCEDAR_BAD_ANSWER = 13,      /* pass: a task or a conditional that it comes to has another answer than 1 and 2 */
+    VULCEDAR_BAD_ANSWER = 13,      /* pass: a task or a conditional that it comes to has another answer than 1 and 2; vulcedar_impact: or a new answer above 255 */
     VULCEDAR_BAD_PICK = 14,        /* pass: an xor's answer names no child that offers though one does, or names one though none does */
     VULCEDAR_BAD_TEXT = 15,        /* the text of a simulation is not one */
     VULCEDAR_NOTHING_TO_UNDO = 16, /* the journal has no step left to take back */
     VULCEDAR_UNKNOWN_POINT = 19,   /* no point has this name */
     VULCEDAR_NO_FREE_POINT = 20,   /* sixteen other points are in use */
     VULCEDAR_BAD_TABLE = 21,       /* the table of classes is not one; found before the plan's own numbers */
-    VULCEDAR_BAD_DESK = 22         /* a plan with desks has a desk above VULCEDAR_DESK_HIGHEST; found behind 6 and before 7 */
+    VULCEDAR_BAD_DESK = 22,        /* a plan with desks has a desk above VULCEDAR_DESK_HIGHEST; found behind 6 and before 7 */
+    VULCEDAR_BAD_MARKS = 28        /* the marks are not those that the pass leaves for these answers */
 };
 
 /* The parts of a result r, a uint32_t. */
@@ -247,6 +248,18 @@ uint32_t vulcedar_hear(const uint8_t *plan, size_t plan_len, uint32_t code, uint
  */
 uint32_t vulcedar_pass(const uint8_t *plan, size_t plan_len, const uint8_t *answers, size_t answers_len, uint8_t *marks,
                        size_t marks_len);
+
+/*
+ * What if one task ended otherwise? answers and marks are those of a pass, task a node that is a task, answer its new one: 1
+ * works, 2 fails, as for vulcedar_pass. On 0 marks is what vulcedar_pass leaves for the answers with the new one in the
+ * task's place; it changes only at the task, at blocks above it, and in the subtrees of later siblings of any of these whose
+ * parent is a serial or a contingency. answers is left: store the new answer there, and the next change can follow. To undo a
+ * change, call with the old answer. 1 to 6; 7; 8; 9; the first of 13 and 14 that the pass over the answers meets; 13 for an
+ * answer above 255; the first of 13 and 14 that the pass over the new answers meets; 28 if the marks are not those of the
+ * pass over the answers.
+ */
+uint32_t vulcedar_impact(const uint8_t *plan, size_t plan_len, const uint8_t *answers, size_t answers_len, uint8_t *marks,
+                         size_t marks_len, uint32_t task, uint32_t answer);
 
 /*
  * A step of a simulation of all sites. state has the rows of all sites one after another, nodes times nodes bytes, zeros
