@@ -16,7 +16,6 @@ pub mod PassTally
 pub mod PassTurn
 pub mod PassRight
 pub mod Answers
-pub mod Local
 pub mod Net
 pub mod Safe
 pub mod Full

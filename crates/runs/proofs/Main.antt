@@ -1,7 +1,7 @@
 -- The theorems of this crate: the claims of specs/Claims.antt. Assumes nothing.
 use Rattle.event.specs.Event.{at, same}
 use Rattle.central.specs.Central.{fresh, reaches}
-use Rattle.runs.specs.Claims.{GuardsFollowRule, FiveEvents, RunsEnd, StuckEnded, StuckIsPass, AnswersAgree, AnswersBelow, MarksBelow, SameElsewhere}
+use Rattle.runs.specs.Claims.{GuardsFollowRule, FiveEvents, RunsEnd, StuckEnded, StuckIsPass, AnswersAgree}
 use Rattle.runs.proofs.Said.{happened}
 use Rattle.runs.proofs.Good.{good-run}
 use Rattle.runs.proofs.Fits.{guards-follow}
@@ -11,7 +11,6 @@ use Rattle.runs.proofs.Stuck.{root-started}
 use Rattle.runs.proofs.Ended.{all-ended}
 use Rattle.runs.proofs.PassRight.{pass-right}
 use Rattle.runs.proofs.Answers.{some-agree}
-use Rattle.runs.proofs.Local.{settle-below, settle-frame, pass-beside}
 
 pub guards-follow-rule : GuardsFollowRule
 guards-follow-rule = guards-follow
@@ -30,12 +29,3 @@ stuck-is-pass p ok es h stuck a bytes agree = pass-right p ok (reaches fresh es)
 
 pub answers-agree : AnswersAgree
 answers-agree = some-agree
-
-pub answers-below : AnswersBelow
-answers-below p a b v l h fuel m = settle-below p a b fuel v m l h
-
-pub marks-below : MarksBelow
-marks-below = settle-frame
-
-pub same-elsewhere : SameElsewhere
-same-elsewhere p ok a b u nz small same outcome = pass-beside p ok a b u small same outcome nz

@@ -19,6 +19,7 @@ use Rattle.lists.proofs.Points.{any-grows}
 use Rattle.plan.specs.Plan.{Kind, task, serial, and, or, xor, contingency, conditional, waiting, kindNumber, isKind, size, kind, children, above, inXor}
 use Rattle.plan.specs.Check.{Accepted}
 use Rattle.plan.proofs.AcceptedLaws.{child-between}
+use Rattle.plan.proofs.UnderLaws.{under-below, through, under-root}
 use Rattle.central.specs.Mark.{committed, failed, turned-down, markNumber, isMark}
 use Rattle.central.specs.Central.{Answer, none, said-yes, said-no, Central, marked, started, ofBranch, finishesBy, failsBy}
 use Rattle.pass.specs.Pass.{works, breaks, Settled, Walked, oneOrTwo, badAnswer, badPick, closes, ending, endOf, close, settleIf, settleBy, settle, numberOf, rootMark, passOf, pass}
@@ -31,7 +32,7 @@ use Rattle.runs.proofs.Facts.{commit-started, worked-held, down-xor}
 use Rattle.runs.proofs.Fits.{by-branch}
 use Rattle.runs.proofs.Stuck.{root-started, is-answered}
 use Rattle.runs.proofs.Ended.{picked-committed, all-ended}
-use Rattle.runs.proofs.PassTally.{Settles, Tallied, through, below-root}
+use Rattle.runs.proofs.PassTally.{Settles, Tallied}
 use Rattle.runs.proofs.PassTurn.{kids, yes-answer, no-answer, all-turns}
 
 ending-at : (w x : ℕ) (b y : Bool) → w ≡ 0 → x ≡ 0 → b ≡ y → ending w x b ≡ cond y works breaks
@@ -130,7 +131,7 @@ module _ (p : List ℕ) (ok : Accepted p) (s : Central) (good : Good p s) (stuck
           rw e (ending-at _ _ _ true (i .sound) (r .0) (r .1)));
       long = i .long;
       kept = i .kept;
-      wrote = λ w l sw b. let r = through p ok s good v w l b in i .wrote (r .0) (r .1) w l sw (r .2);
+      wrote = λ w l sw b. let r = through p ok v w l b in i .wrote (r .0) (r .1) w l sw (r .2);
     }
 
   answer-right : (k : Kind) → kind p v ≡ k → badAnswer k (getD a v 0) ≡ 0
@@ -183,7 +184,7 @@ module _ (p : List ℕ) (ok : Accepted p) (s : Central) (good : Good p s) (stuck
       (λ e. let ne : v ≡ 0 → ⊥ = eqb-false v 0 e in
       getD-set-other (end .marks) 0 v (rootMark (end .outcome)) 0 ne
       ∙ cases (decided (started s v))
-      (λ sv. root-right .wrote v l sv (below-root p ok s good (suc v) v (omega arith) (omega arith) l))
+      (λ sv. root-right .wrote v l sv (under-below p 0 v (λ q. ne (sym q)) (under-root p ok (suc v) v (omega arith) l)))
       (λ sv. cases (root-right .kept v) (λ x. x ∙ getD-replicate (size p) v 0 0 l ∙ sym (idle-number (s .mark v) sv)) (λ x. x)))
 
   pub pass-right : pass p a ≡ record { number = 0; marks = table (λ v. markNumber (s .mark v)) (size p) }

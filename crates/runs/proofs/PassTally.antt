@@ -16,12 +16,11 @@ use Rattle.lists.proofs.Logic.{cases, clash, decided}
 use Rattle.lists.proofs.Points.{in-snoc, any-snoc}
 use Rattle.plan.specs.Plan.{xor, size, kind, parent, children}
 use Rattle.plan.specs.Check.{Accepted}
-use Rattle.plan.proofs.PlanLaws.{child-in}
+use Rattle.plan.specs.Under.{Under, self, up, Below}
 use Rattle.plan.proofs.AcceptedLaws.{parent-child}
 use Rattle.central.specs.Mark.{idle, committed, failed, turned-down, markNumber, isMark}
 use Rattle.central.specs.Central.{Central, marked, started}
 use Rattle.pass.specs.Pass.{works, breaks, Settled, Tally, Walked, skip, note, nothing, unwalked}
-use Rattle.runs.specs.Claims.{Below, child, deeper}
 use Rattle.runs.proofs.Good.{Good}
 use Rattle.runs.proofs.MarkLaws.{mark-is, isWorked, outcomeOf}
 use Rattle.runs.proofs.Facts.{child-placed}
@@ -32,7 +31,7 @@ Kept s m n = (w : ℕ) → (getD n w 0 ≡ getD m w 0) ⊎ (getD n w 0 ≡ markN
 
 -- every started node that is c or below c has its mark
 abbrev pub Wrote : List ℕ → Central → ℕ → List ℕ → Type 0
-Wrote p s c n = (w : ℕ) → w < size p → started s w ≡ true → (c ≡ w) ⊎ (Below p c w) → getD n w 0 ≡ markNumber (s .mark w)
+Wrote p s c n = (w : ℕ) → w < size p → started s w ≡ true → Under p c w → getD n w 0 ≡ markNumber (s .mark w)
 
 -- settling v by marks m gave r
 pub record Settles (p : List ℕ) (s : Central) (v : ℕ) (m : List ℕ) (r : Settled) : Type 0 where
@@ -67,27 +66,12 @@ snoc-length : (ds : List ℕ) (c n : ℕ) → n ≡ length ds → suc n ≡ leng
 snoc-length ds c n e = let h = length-append ds (c ∷ []) in omega arith
 
 module _ (p : List ℕ) (ok : Accepted p) (s : Central) (good : Good p s) where
-  -- what is below a node that has not started has not started
-  below-started : (v w : ℕ) → w < size p → started s w ≡ true → Below p v w → started s v ≡ true
-  below-started v w l e (child h q) = child-placed p s good v w (child-in p v (record { low = h; high = l; of = q })) e .0
-  below-started v w l e (deeper h b) =
+  -- what is in the subtree of a node that has not started has not started
+  under-started : (v w : ℕ) → w < size p → started s w ≡ true → Under p v w → started s v ≡ true
+  under-started v w l e (self q) = subst (λ z. started s z ≡ true) (sym q) e
+  under-started v w l e (up h b) =
       let lt = ok .below w h l in
-      below-started v (parent p w) (omega arith) (child-placed p s good (parent p w) w (parent-child p ok w h l) e .0) b
-
-  -- from v down to w goes through a child of v
-  pub through : (v w : ℕ) → w < size p → Below p v w → (d : ℕ) × In d (children p v) × ((d ≡ w) ⊎ (Below p d w))
-  through v w l (child h q) = (w, child-in p v (record { low = h; high = l; of = q }), inl refl)
-  through v w l (deeper h b) =
-      let lt = ok .below w h l in
-      let r = through v (parent p w) (omega arith) b in
-      (r .0, r .1, inr (cases (r .2) (λ x. child h (sym x)) (λ x. deeper h x)))
-
-  pub below-root : (n w : ℕ) → w < n → 0 < w → w < size p → Below p 0 w
-  below-root zero w l h k = absurd (omega arith)
-  below-root (suc n) w l h k =
-      let lt = ok .below w h k in
-      cases (decided (eqb (parent p w) 0)) (λ x. child h (eqb-true _ _ x))
-      (λ x. let ne : parent p w ≡ 0 → ⊥ = eqb-false _ _ x in deeper h (below-root n (parent p w) (omega arith) (omega arith) (omega arith)))
+      under-started v (parent p w) (omega arith) (child-placed p s good (parent p w) w (parent-child p ok w h l) e .0) b
 
   pub tally-none : (v : ℕ) (m : List ℕ) → length m ≡ size p → Tallied p s v [] m (unwalked m)
   unfolding unwalked nothing any
@@ -119,11 +103,8 @@ module _ (p : List ℕ) (ok : Accepted p) (s : Central) (good : Good p s) where
           chosen = λ k. flag-same (marked s committed) ds c _ (i .chosen k) (rw q);
           long = i .long;
           kept = i .kept;
-          wrote = λ d j w l st b. cases (in-snoc ds j) (λ h. i .wrote d h w l st b) (λ h. absurd (dead w l st (subst (λ z. (z ≡ w) ⊎ (Below p z w)) h b)));
+          wrote = λ d j w l st b. cases (in-snoc ds j) (λ h. i .wrote d h w l st b) (λ h. clash _ (under-started c w l st (subst (λ z. Under p z w) h b)) e);
         }
-      where
-        dead : (w : ℕ) → w < size p → started s w ≡ true → (c ≡ w) ⊎ (Below p c w) → ⊥
-        dead w l st b = cases b (λ q. clash _ st (subst (λ z. started s z ≡ false) q e)) (λ q. clash _ (below-started c w l st q) e)
 
     -- c was settled, which gave r, and got the mark x
     module _ (r : Settled) (y : Settles p s c (t .marks) r) (high : c < size p) (x : ℕ) (e : x ≡ markNumber (s .mark c)) where
@@ -143,9 +124,11 @@ module _ (p : List ℕ) (ok : Accepted p) (s : Central) (good : Good p s) where
       set-wrote : (d : ℕ) → In d (ds ++ (c ∷ [])) → Wrote p s d (set (r .marks) c x)
       set-wrote d j w l st b = cases (in-snoc ds j)
           (λ h. set-keeps w (cases (y .kept w) (λ k. k ∙ i .wrote d h w l st b) (λ k. k)))
-          (λ h. cases (subst (λ z. (z ≡ w) ⊎ (Below p z w)) h b)
-          (λ q. subst (λ z. getD (set (r .marks) c x) z 0 ≡ markNumber (s .mark z)) q set-here)
-          (λ q. set-keeps w (y .wrote w l st q)))
+          (λ h. here-or (subst (λ z. Under p z w) h b))
+        where
+          here-or : Under p c w → getD (set (r .marks) c x) w 0 ≡ markNumber (s .mark w)
+          here-or (self q) = subst (λ z. getD (set (r .marks) c x) z 0 ≡ markNumber (s .mark z)) q set-here
+          here-or (up z q) = set-keeps w (y .wrote w l st (z, q))
 
       abbrev Next : Tally → Type 0
       Next u = Tallied p s v (ds ++ (c ∷ [])) m (record { tally = u; marks = set (r .marks) c x })

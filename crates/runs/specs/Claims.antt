@@ -3,17 +3,16 @@
 use mathlib.Core.Path.{_≡_}
 use mathlib.Core.Bool.{Bool, true, false, _&&_, _||_, not}
 use mathlib.Core.List.{List, _++_}
-use mathlib.Core.Logic.{_⊎_}
 use Prim.Native.Nat.{ℕ, _*_, _≤_, _<_}
-use lib.ListN.{length, getD, replicate}
+use lib.ListN.{length}
 use Rattle.lists.specs.Seq.{table}
-use Rattle.plan.specs.Plan.{size, parent}
+use Rattle.plan.specs.Plan.{size}
 use Rattle.plan.specs.Check.{Accepted}
 use Rattle.event.specs.Event.{Event, applies, among}
 use Rattle.guard.specs.Guard.{guard, holds, barred}
 use Rattle.central.specs.Mark.{Mark, committed, failed, turned-down, markNumber}
 use Rattle.central.specs.Central.{Central, fresh, marked, started, allowed, isRun, reaches}
-use Rattle.pass.specs.Pass.{Outcome, settle, PassResult, pass}
+use Rattle.pass.specs.Pass.{PassResult, pass}
 use Rattle.runs.specs.Agree.{Bytes, Agrees}
 
 -- C, D, E, I11 (demand 2): after every run, where just the run's events are heard, an event that applies is not barred and its guard holds if
@@ -52,28 +51,3 @@ StuckIsPass = (p : List ℕ) → Accepted p → (es : List Event) → isRun p es
 -- I9: some answers agree with every run
 abbrev pub AnswersAgree : Type 0
 AnswersAgree = (p : List ℕ) → Accepted p → (es : List Event) → isRun p es ≡ true → (a : List ℕ) × Bytes (size p) a × Agrees p (among es) a
-
--- A4: w is below v
-pub data Below (p : List ℕ) (v : ℕ) : ℕ → Type 0 where
-  child : {w : ℕ} → 0 < w → parent p w ≡ v → Below p v w
-  deeper : {w : ℕ} → 0 < w → Below p v (parent p w) → Below p v w
-
--- F1, F2: how a node ends, and the marks that settling it writes, depend on the answers at it and below it alone
-abbrev pub AnswersBelow : Type 0
-AnswersBelow = (p a b : List ℕ) (v : ℕ) → v < size p →
-    ((w : ℕ) → w < size p → (v ≡ w) ⊎ Below p v w → getD a w 0 ≡ getD b w 0) → (fuel : ℕ) (m : List ℕ) → settle p a fuel v m ≡ settle p b fuel v m
-
--- F2, F4: settling a node writes marks below it alone
-abbrev pub MarksBelow : Type 0
-MarksBelow = (p a : List ℕ) (fuel v : ℕ) (m : List ℕ) (w : ℕ) → (Below p v w → ⊥) → getD (settle p a fuel v m .marks) w 0 ≡ getD m w 0
-
--- F3: how node v ends by the answers a
-unfoldable pub outcomeAt : List ℕ → List ℕ → ℕ → Outcome
-outcomeAt p a v = settle p a (size p) v (replicate (size p) 0) .outcome
-
--- F1 to F5: answers that differ only at node u and below it, which is not the root, and give it the same end: the pass has one number for both,
--- and the same mark at every node that is not below u
-abbrev pub SameElsewhere : Type 0
-SameElsewhere = (p : List ℕ) → Accepted p → (a b : List ℕ) (u : ℕ) → 0 < u → u < size p →
-    ((w : ℕ) → w < size p → (w ≡ u → ⊥) → (Below p u w → ⊥) → getD a w 0 ≡ getD b w 0) → outcomeAt p a u ≡ outcomeAt p b u →
-    (pass p a .number ≡ pass p b .number) × ((w : ℕ) → (Below p u w → ⊥) → getD (pass p a .marks) w 0 ≡ getD (pass p b .marks) w 0)
