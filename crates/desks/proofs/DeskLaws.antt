@@ -1,15 +1,15 @@
 -- A plan with desks as a plan of two bytes a node with a layout (rules N1 to N4): the plain plan, the check, and the rows. Assumes nothing.
 use mathlib.Core.Path.{_≡_, refl, _∙_, ap}
-use mathlib.Core.Bool.{true, false, cond, not, _&&_}
+use mathlib.Core.Bool.{true, false, _&&_}
 use mathlib.Core.List.{List}
 use mathlib.Core.Logic.{_⊎_}
 use Prim.Native.Nat.{ℕ, _+_, _*_, _/_, _%_, _≤_, _<_}
 use native.Mathlib.Omega.{arith}
 use lib.Dec.{eqb, ltb, leb}
 use lib.ListN.{length, getD}
-use borrow.Author.Tests.{eqb-true, eqb-false, eq-eqb, ne-eqb, ltb-true, leb-true, lt-ltb, le-leb, lt-leb}
+use borrow.Author.Tests.{eqb-true, eq-eqb, ne-eqb, ltb-true, leb-true, lt-ltb, le-leb, lt-leb}
 use Rattle.lists.specs.Seq.{upFrom, allBelow}
-use Rattle.lists.proofs.Logic.{cases, decided, clash, no-bool, and-left, and-right, and-join, test-passed}
+use Rattle.lists.proofs.Logic.{cases, decided, clash, no-bool, and-left, and-right, and-join, test-passed, number-passed}
 use Rattle.lists.proofs.Members.{any-at, any-by, in-up, up-in}
 use Rattle.lists.proofs.Below.{below-at, below-by, below-stop}
 use Rattle.lists.proofs.Table.{table-length, table-at}
@@ -54,14 +54,11 @@ threes-whole p e l m =
     let r : length p % 3 ≡ 0 = omega arith in
     and-join _ _ (and-join _ _ (eq-eqb (length p % 3) 0 r) (lt-ltb 0 (length p) (omega arith))) (le-leb (length p) 480 (omega arith))
 
-first : (n r : ℕ) → cond (not (eqb n 0)) n r ≡ 0 → (n ≡ 0) × (r ≡ 0)
-first n r h = cases (decided (eqb n 0)) (λ e. (eqb-true n 0 e, rw e at h)) (λ e. absurd (eqb-false n 0 e (rw e at h)))
-
 pub check-accepts : (p : List ℕ) → deskCheck p ≡ 0 → DeskAccepted p
 unfolding deskCheck desksLow
 check-accepts p h =
     let a = test-passed (threes p) 0 _ h in
-    let b = first (checkNumber (plain p)) _ (a .1) in
+    let b = number-passed (checkNumber (plain p)) _ (a .1) in
     let c = test-passed (desksLow p) 21 0 (b .1) in
     record {
       whole = whole-threes p (a .0);

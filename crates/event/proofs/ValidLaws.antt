@@ -1,11 +1,11 @@
 -- The tests of specs/Valid.antt: which fails first, and what is known where none does. Assumes nothing.
 use mathlib.Core.Path.{_≡_}
-use mathlib.Core.Bool.{Bool, true, false, cond, _&&_, not, and-false}
+use mathlib.Core.Bool.{Bool, true, false, _&&_, and-false}
 use mathlib.Core.List.{List}
 use Prim.Native.Nat.{ℕ, _≤_, _<_}
-use borrow.Author.Tests.{eq-eqb, ne-eqb, eqb-true, eqb-false, ltb-true}
+use borrow.Author.Tests.{eq-eqb, ne-eqb, ltb-true}
 use lib.Dec.{eqb}
-use Rattle.lists.proofs.Logic.{cases, decided, and-left, and-right, test-passed}
+use Rattle.lists.proofs.Logic.{and-left, and-right, test-passed, number-passed}
 use Rattle.plan.specs.Plan.{size}
 use Rattle.plan.specs.Check.{fitNumber}
 use Rattle.plan.proofs.Main.{fit-exact}
@@ -67,14 +67,11 @@ module _ (p : List ℕ) (fits sited : Bool) (code node : ℕ) where
   unfolding invalid
   invalid-fault h = rw (eq-eqb (fitNumber p fits) 0 h)
 
-  -- a number is 0 only where every test passed
-  first : (n r : ℕ) → cond (not (eqb n 0)) n r ≡ 0 → (n ≡ 0) × (r ≡ 0)
-  first n r h = cases (decided (eqb n 0)) (λ e. (eqb-true n 0 e, rw e at h)) (λ e. absurd (eqb-false n 0 e (rw e at h)))
-
+  -- the number is 0 only where every test passed
   pub valid : invalid p fits sited code node ≡ 0 → Valid p fits sited code node
   unfolding invalid
   valid h =
-      let a = first (fitNumber p fits) _ h in
+      let a = number-passed (fitNumber p fits) _ h in
       let b = fit-exact p fits .none .0 (a .0) in
       let f = faultless p sited code node (a .1) in
       record { plan = b .0; long = b .1; placed = f .placed; low = f .low; high = f .high; node-in = f .node-in; applied = f .applied }

@@ -6,14 +6,14 @@ use mathlib.Core.Logic.{⊎-elim}
 use mathlib.Core.List.{List, []}
 use Prim.Native.Nat.{ℕ, zero, suc, _≤_}
 use native.Mathlib.Omega.{arith}
-use borrow.Author.Tests.{ne-eqb, eqb-true, eqb-false, le-leb, leb-true, leb-false}
+use borrow.Author.Tests.{ne-eqb, eqb-true, eqb-false, le-leb, leb-true, leb-false, not-false}
 use lib.Dec.{eqb, leb}
 use lib.ListN.{length}
 use Rattle.lists.specs.Seq.{lastOr}
 use Rattle.lists.proofs.Logic.{cases, decided, clash, and-left, and-right, and-join}
 use Rattle.plan.specs.Plan.{Kind, task, serial, and, or, xor, contingency, conditional, waiting, kindNumber, isKind, kindOf, kindByte, kind, parent, children, above, aboveByte, inXor}
 use Rattle.plan.specs.Check.{Accepted}
-use Rattle.plan.proofs.KindLaws.{is-kind, kind-other, above-byte}
+use Rattle.plan.proofs.KindLaws.{same-kind, is-kind, kind-other, above-byte}
 use Rattle.plan.proofs.AcceptedLaws.{child-between}
 use Rattle.event.specs.Event.{Code, start, offer, commit, abort, answered-yes, answered-no, pick, down, codeOf, eventOf}
 use Rattle.event.proofs.CodeLaws.{two, code-down}
@@ -218,15 +218,7 @@ start-alone conditional u cs v h = absurd (false≢true (sym h))
 start-alone waiting u cs v h = refl
 
 task-only : (k : Kind) → not (isKind task k) ≡ false → k ≡ task
-unfolding isKind kindNumber
-task-only task h = refl
-task-only serial h = absurd (false≢true (sym h))
-task-only and h = absurd (false≢true (sym h))
-task-only or h = absurd (false≢true (sym h))
-task-only xor h = absurd (false≢true (sym h))
-task-only contingency h = absurd (false≢true (sym h))
-task-only conditional h = absurd (false≢true (sym h))
-task-only waiting h = absurd (false≢true (sym h))
+task-only k h = same-kind task k (not-false _ h)
 
 unnamed : (code : Code) (k above : Kind) (u v : ℕ) (cs : List ℕ) → namesFamily code k above ≡ false → guardByKinds code k above u v cs ≡ guardByKinds code k above u v []
 unfolding namesFamily guardByKinds finishBy abortBy

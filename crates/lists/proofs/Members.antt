@@ -1,5 +1,5 @@
 -- Membership: all, any and keep by it, numbers in a row, rising lists. Assumes nothing.
-use mathlib.Core.Path.{_≡_, refl, _∙_, ap}
+use mathlib.Core.Path.{_≡_, refl, _∙_, ap, ap₂}
 use mathlib.Core.Bool.{Bool, true, false, _&&_, _||_, cond, false≢true}
 use mathlib.Core.List.{List, [], _∷_, _++_, map}
 use mathlib.Core.Logic.{_⊎_, inl, inr}
@@ -22,6 +22,16 @@ module _ {A : Type 0} where
   unfolding all
   all-by f [] h = refl
   all-by f (y ∷ xs) h = (both (f y) (all f xs)) .1 (h y (here refl), all-by f xs (λ x i. h x (there i)))
+
+  pub all-same : (f g : A → Bool) (xs : List A) → ((x : A) → In x xs → f x ≡ g x) → all f xs ≡ all g xs
+  unfolding all
+  all-same f g [] h = refl
+  all-same f g (x ∷ xs) h = ap₂ _&&_ (h x (here refl)) (all-same f g xs (λ y i. h y (there i)))
+
+  pub any-same : (f g : A → Bool) (xs : List A) → ((x : A) → In x xs → f x ≡ g x) → any f xs ≡ any g xs
+  unfolding any
+  any-same f g [] h = refl
+  any-same f g (x ∷ xs) h = ap₂ _||_ (h x (here refl)) (any-same f g xs (λ y i. h y (there i)))
 
   pub any-by : (f : A → Bool) {xs : List A} {x : A} → In x xs → f x ≡ true → any f xs ≡ true
   unfolding any

@@ -4,7 +4,7 @@ use mathlib.Core.Bool.{cond}
 use mathlib.Core.List.{List}
 use Prim.Native.Nat.{ℕ, _<_}
 use lib.Dec.{eqb}
-use lib.ListN.{getD, length, length-replicate, getD-replicate, replicate, set}
+use lib.ListN.{getD, length, length-set, length-replicate, getD-replicate, replicate, set}
 use lib.Seq.{getD-set-same, getD-set-other}
 use borrow.Author.Tests.{eqb-true, eqb-false, ne-eqb}
 use native.Mathlib.Omega.{arith}
@@ -52,7 +52,12 @@ module _ (p : List ℕ) (ok : Accepted p) (a : List ℕ) where
     root : markAt p a 0 ≡ rootMark (endAt p a 0)
     root = mark-is 0 ∙ getD-set-same settled 0 _ 0 (omega (arith, wrote .long, ok .some))
 
-    -- an accepted pass reaches the root
+    -- an accepted pass leaves a mark for every node
+    pub marks-length : length (pass p a .marks) ≡ size p
+    unfolding pass passOf
+    marks-length = length-set settled 0 _ ∙ wrote .long
+
+    -- and reaches the root
     pub root-on : markAt p a 0 ≡ 0 → ⊥
     root-on e = root-marked (endAt p a 0) (end-clean p ok a 0 (ok .some) root-sound) (sym root ∙ e)
 

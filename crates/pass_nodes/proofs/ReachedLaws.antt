@@ -1,5 +1,5 @@
 -- Nodes that an accepted pass reaches: they end without a fault, as their mark says. Assumes nothing.
-use mathlib.Core.Path.{_≡_, refl, sym, _∙_, ap}
+use mathlib.Core.Path.{_≡_, refl, sym, _∙_, ap, subst}
 use mathlib.Core.Bool.{Bool, true, false, cond, _&&_, not}
 use mathlib.Core.List.{List, [], _∷_}
 use Prim.Native.Nat.{ℕ, zero, suc, _<_}
@@ -11,6 +11,7 @@ use Rattle.lists.specs.Member.{In, here, there}
 use Rattle.lists.proofs.Logic.{cases, decided}
 use Rattle.plan.specs.Plan.{Kind, isKind, xor, size, kind, parent, children}
 use Rattle.plan.specs.Check.{Accepted}
+use Rattle.plan.specs.Under.{Under, self, up}
 use Rattle.plan.proofs.AcceptedLaws.{child-between, parent-child}
 use Rattle.pass.specs.Pass.{Outcome, works, breaks, Tally, goes, nothing, goodMark, childMark, numberOf, rootMark, pass}
 use Rattle.pass_nodes.specs.Nodes.{counted, tallied, endAt, nextMark, markAmong, gives, markAt}
@@ -87,3 +88,10 @@ module _ (p : List ℕ) (ok : Accepted p) (a : List ℕ) (z : pass p a .number �
 
   pub reached : (v : ℕ) → v < size p → (markAt p a v ≡ 0 → ⊥) → Reached v
   reached v s nz = reached-by (suc v) v (omega arith) s nz
+
+  -- what is above a reached node is reached
+  pub above-reached : (u w : ℕ) → w < size p → Under p u w → (markAt p a w ≡ 0 → ⊥) → markAt p a u ≡ 0 → ⊥
+  above-reached u w s (self e) nz = subst (λ v. markAt p a v ≡ 0 → ⊥) (sym e) nz
+  above-reached u w s (up l b) nz =
+      let low = ok .below w l s in
+      above-reached u (parent p w) (omega arith) b (λ q. nz (child-off (parent p w) w (parent-child p ok w l s) q))

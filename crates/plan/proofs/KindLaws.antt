@@ -1,5 +1,5 @@
 -- A kind byte: which kind it is, and the kind above a node. Assumes nothing.
-use mathlib.Core.Path.{_≡_, refl, sym, _∙_}
+use mathlib.Core.Path.{_≡_, refl, sym, _∙_, ap}
 use mathlib.Core.Bool.{Bool, true, false, cond}
 use mathlib.Core.List.{List}
 use mathlib.Core.Logic.{_⊎_, inl, inr, ⊎-elim}
@@ -75,6 +75,11 @@ kind-same xor = refl
 kind-same contingency = refl
 kind-same conditional = refl
 kind-same waiting = refl
+
+-- a kind is known by its test
+pub same-kind : (j k : Kind) → isKind j k ≡ true → k ≡ j
+unfolding isKind
+same-kind j k h = sym (kind-number k) ∙ ap kindOf (sym (eqb-true (kindNumber j) (kindNumber k) h)) ∙ kind-number j
 
 -- the byte's test says what the kind's does, for every kind but a task
 pub is-kind : (j : Kind) (k : ℕ) → 1 < kindNumber j → isKind j (kindOf k) ≡ eqb k (kindNumber j)

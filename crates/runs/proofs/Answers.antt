@@ -15,6 +15,7 @@ use Rattle.lists.proofs.Table.{table-length, table-at}
 use Rattle.lists.proofs.Points.{any-none, earlier-none}
 use Rattle.plan.specs.Plan.{Kind, task, serial, and, or, xor, contingency, conditional, waiting, size, kind, parent, children, inXor}
 use Rattle.plan.specs.Check.{Accepted}
+use Rattle.plan.proofs.KindLaws.{same-kind}
 use Rattle.plan.proofs.PlanLaws.{rising-children, child-in}
 use Rattle.plan.proofs.AcceptedLaws.{parent-in}
 use Rattle.event.specs.Event.{Code, start, offer, commit, abort, answered-yes, answered-no, pick, at, appliesBy, applies}
@@ -23,7 +24,7 @@ use Rattle.central.specs.Central.{Answer, none, said-yes, said-no, Central, fre
 use Rattle.runs.specs.Agree.{Bytes, placeOf, Agrees}
 use Rattle.runs.specs.Claims.{AnswersAgree}
 use Rattle.runs.proofs.Said.{saidBy, said, happened}
-use Rattle.runs.proofs.Family.{xor-is, conditional-is, xor-child, child-xor}
+use Rattle.runs.proofs.Family.{xor-child, child-xor}
 use Rattle.runs.proofs.Good.{Good, good-run}
 use Rattle.runs.proofs.MarkLaws.{isWorked, failed-not-worked, worked-said}
 use Rattle.runs.proofs.Facts.{picked-xor, one-picked}
@@ -119,13 +120,13 @@ module _ (p : List ℕ) (ok : Accepted p) (s : Central) (good : Good p s) where
   unfolding answerBy said saidBy applies appliesBy
   says-yes v h =
       let k = good .known (at answered-yes v) h in
-      answer-at v (inside answered-yes v h) ∙ rw (conditional-is p v (search parts)) (yes-number (s .answer v) h)
+      answer-at v (inside answered-yes v h) ∙ rw (same-kind conditional (kind p v) (search parts)) (yes-number (s .answer v) h)
 
   says-no : (v : ℕ) → said p s (at answered-no v) ≡ true → getD (answersOf p s) v 0 ≡ 2
   unfolding answerBy said saidBy applies appliesBy
   says-no v h =
       let k = good .known (at answered-no v) h in
-      answer-at v (inside answered-no v h) ∙ rw (conditional-is p v (search parts)) (no-number (s .answer v) h)
+      answer-at v (inside answered-no v h) ∙ rw (same-kind conditional (kind p v) (search parts)) (no-number (s .answer v) h)
 
   picks : (v : ℕ) → said p s (at pick v) ≡ true → getD (answersOf p s) (parent p v) 0 ≡ placeOf p v
   unfolding answerBy said saidBy placeOf
@@ -134,7 +135,7 @@ module _ (p : List ℕ) (ok : Accepted p) (s : Central) (good : Good p s) where
       let c = xor-child p v x (inside pick v h) in
       let i = child-in p (parent p v) c in
       answer-at (parent p v) (parent-in p ok v (c .low) (c .high))
-      ∙ rw (xor-is p (parent p v) (sym (child-xor p (parent p v) v i) ∙ x))
+      ∙ rw (same-kind xor (kind p (parent p v)) (sym (child-xor p (parent p v) v i) ∙ x))
       (place-at (s .picked) 0 v (rising-children p (parent p v)) i h (λ w j e. one-picked p s good (parent p v) w v j i e h) ∙ omega arith)
 
   unpicked : (v : ℕ) → kind p v ≡ xor → said p s (at start v) ≡ true → any (λ c. said p s (at pick c)) (children p v) ≡ false → getD (answersOf p s) v 0 ≡ 0

@@ -15,7 +15,7 @@ use Rattle.lists.proofs.Members.{all-at, all-by, rising-above}
 use Rattle.lists.proofs.Points.{in-earlier, earlier-in, last-member, last-greatest}
 use Rattle.plan.specs.Plan.{Kind, task, serial, and, or, xor, contingency, conditional, waiting, kindNumber, isKind, kindOf, size, kindByte, kind, parent, children, above, inXor}
 use Rattle.plan.proofs.PlanLaws.{Child, child-of}
-use Rattle.plan.proofs.KindLaws.{is-kind}
+use Rattle.plan.proofs.KindLaws.{same-kind}
 use Rattle.guard.specs.Guard.{beforeIn, isFirst}
 use Rattle.pass.specs.Pass.{goes}
 
@@ -90,34 +90,14 @@ chain-until f h cs goes top clear (suc n) c l i t = cases
 pub first-none : (H : ℕ → Bool) {d : ℕ} (cs : List ℕ) (v : ℕ) → Rising d cs → isFirst cs v ≡ true → all H (earlier cs v) ≡ true
 first-none H cs v r e = all-by H (earlier cs v) (λ c j. let k = earlier-in cs v j in let l = first-least r e (k .0) in absurd (omega arith))
 
--- a kind by its test
-kind-is : (j : Kind) (k : ℕ) → 1 < kindNumber j → kindOf (kindNumber j) ≡ j → isKind j (kindOf k) ≡ true → kindOf k ≡ j
-kind-is j k l q h = ap kindOf (eqb-true k (kindNumber j) (sym (is-kind j k l) ∙ h)) ∙ q
-
 pub not-task : (k : Kind) → isKind task k ≡ false → k ≡ task → ⊥
 unfolding isKind kindNumber
 not-task k h q = false≢true (sym h ∙ ap (isKind task) q)
 
 pub task-or-not : (k : Kind) → (k ≡ task) ⊎ (k ≡ task → ⊥)
-unfolding isKind kindNumber
-task-or-not task = inl refl
-task-or-not serial = inr (not-task serial refl)
-task-or-not and = inr (not-task and refl)
-task-or-not or = inr (not-task or refl)
-task-or-not xor = inr (not-task xor refl)
-task-or-not contingency = inr (not-task contingency refl)
-task-or-not conditional = inr (not-task conditional refl)
-task-or-not waiting = inr (not-task waiting refl)
+task-or-not k = cases (decided (isKind task k)) (λ h. inl (same-kind task k h)) (λ h. inr (not-task k h))
 
 module _ (p : List ℕ) where
-  pub xor-is : (v : ℕ) → isKind xor (kind p v) ≡ true → kind p v ≡ xor
-  unfolding kind kindOf kindNumber
-  xor-is v h = kind-is xor (kindByte p v) (omega arith) refl h
-
-  pub conditional-is : (v : ℕ) → isKind conditional (kind p v) ≡ true → kind p v ≡ conditional
-  unfolding kind kindOf kindNumber
-  conditional-is v h = kind-is conditional (kindByte p v) (omega arith) refl h
-
   -- a child of an xor is no root
   pub xor-child : (v : ℕ) → inXor p v ≡ true → v < size p → Child p (parent p v) v
   unfolding inXor above isKind kindNumber

@@ -16,6 +16,7 @@ use Rattle.lists.proofs.Members.{all-at, all-by, any-at, in-some}
 use Rattle.lists.proofs.Points.{any-none, in-right, any-keep, in-earlier, earlier-in, earlier-split, place-injective}
 use Rattle.plan.specs.Plan.{Kind, task, serial, and, or, xor, contingency, conditional, waiting, kindNumber, isKind, size, kind, children}
 use Rattle.plan.specs.Check.{Accepted}
+use Rattle.plan.proofs.KindLaws.{same-kind}
 use Rattle.plan.proofs.PlanLaws.{rising-children, child-of}
 use Rattle.event.specs.Event.{at, same}
 use Rattle.central.specs.Mark.{committed, failed, turned-down, markNumber, isMark}
@@ -24,7 +25,7 @@ use Rattle.pass.specs.Pass.{Settled, Walked, goesBy, goes, goodMark, childMark,
 use Rattle.runs.specs.Agree.{placeOf, Agrees}
 use Rattle.runs.specs.Claims.{Stuck, ended}
 use Rattle.runs.proofs.Said.{saidBy, said}
-use Rattle.runs.proofs.Family.{xor-is, child-high, child-xor}
+use Rattle.runs.proofs.Family.{child-high, child-xor}
 use Rattle.runs.proofs.Good.{Good}
 use Rattle.runs.proofs.MarkLaws.{mark-is, isWorked, commit-worked, commit-not-failed, failed-not-worked, ended-well, outcomeOf}
 use Rattle.runs.proofs.Facts.{child-placed, down-xor, down-picked}
@@ -134,7 +135,7 @@ module _ (p : List ℕ) (ok : Accepted p) (s : Central) (good : Good p s) (stuck
           goodMark (kind p v) (getD a v 0) (suc (t .tally .places)) ≡ markNumber (s .mark c)
       unfolding goodMark markNumber isMark
       mark-right q = rw (i .places) (cases (decided (isKind xor (kind p v)))
-          (λ x. rw (x, pick-place (xor-is p v x) q) (cases q (λ e. rw e) (λ e. rw e)))
+          (λ x. rw (x, pick-place (same-kind xor (kind p v) x) q) (cases q (λ e. rw e) (λ e. rw e)))
           (λ x. rw x (cases q (λ e. rw e) (λ e. clash _ (down-xor p s good c (rw e)) (child-xor p v c here-in ∙ x)))))
 
       module _ (f : ℕ → List ℕ → Settled) (y : started s c ≡ true → Settles p s c (t .marks) (f c (t .marks))) where

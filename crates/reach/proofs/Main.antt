@@ -1,0 +1,20 @@
+-- The theorems of this crate: the claims of specs/Claim.antt. Assumes nothing.
+use Rattle.reach.specs.Claim.{OneReaches, ClassesReach, ImpactRight, ImpactPasses, ImpactNone}
+use Rattle.reach.proofs.ReachLaws
+use Rattle.reach.proofs.ClassLaws
+use Rattle.reach.proofs.ImpactLaws
+
+pub one-reaches : OneReaches
+one-reaches = ReachLaws.one-reaches
+
+pub classes-reach : ClassesReach
+classes-reach = ClassLaws.classes-reach
+
+pub impact-right : ImpactRight
+impact-right = ImpactLaws.impact-right
+
+pub impact-passes : ImpactPasses
+impact-passes = ImpactLaws.impact-passes
+
+pub impact-none : ImpactNone
+impact-none = ImpactLaws.impact-none
