@@ -4,7 +4,7 @@ use native.Mathlib.Omega.{arith}
 use lib.ListN.{set, replicate}
 use Rattle.lists.proofs.Parts.{Back, back-room, back-length}
 use Rattle.pass.specs.Pass.{passInto}
-use Rattle.impact.proofs.ChangeLaws.{scratch-length, answers-length, set-back, lent-again}
+use Rattle.impact.proofs.ChangeLaws.{scratch-length, scratch-size, set-back, new-ready, lent-again}
 use borrow.Author.Needs.{needs}
 use Rattle.impact.proofs.pass_new.Statement.{statement}
 use Rattle.impact.proofs.pass_new.Tie as tie
@@ -16,14 +16,14 @@ array-borrow-prefix-next : tie.Need-array-borrow-prefix-next
 array-borrow-prefix-next c = search needs
 
 slice-aggregate-replace : tie.Need-slice-aggregate-replace
-slice-aggregate-replace c = scratch-length (c .before .before .before .before .before .pre) _ (c .before .node-count .ensures)
+slice-aggregate-replace c = scratch-length (c .before .before .before .before .before .pre .0) _ (c .before .node-count .ensures)
 
 replace-requires : tie.Need-replace-requires
-replace-requires c κs = let r = c .before .before .before .before .before .pre in (answers-length r _ (c .before .node-count .ensures), omega (arith, r .answers, r .node))
+replace-requires c κs = let r = c .before .before .before .before .before .pre .0 in (r .answers ∙ sym (scratch-size r _ (c .before .node-count .ensures)), omega (arith, r .answers, r .node))
 
 -- what `replace` left
 back : (c : tie.After-replace) → Back (c .replace .last .1 .1 .1 .0) (replicate 160 0) (c .before .before .node-count .result)
-back c = set-back (c .before .before .before .before .before .before .pre) _ (c .before .before .node-count .ensures) _ _ (c .replace .ensures)
+back c = set-back (c .before .before .before .before .before .before .pre .0) _ (c .before .before .node-count .ensures) _ _ (c .replace .ensures)
 
 array-share-prefix-next : tie.Need-array-share-prefix-next
 array-share-prefix-next c = back-room (back (c .before))
@@ -32,13 +32,13 @@ slice-aggregate-settle-all : tie.Need-slice-aggregate-settle-all
 slice-aggregate-settle-all c = back-length (back (c .before .before))
 
 settle-all-requires : tie.Need-settle-all-requires
-settle-all-requires c κs = search needs
+settle-all-requires c κs = let r = c .before .before .before .before .before .before .before .before .before .pre in new-ready (r .0) _ (c .before .before .before .before .before .node-count .ensures) _ _ _ (c .before .before .before .replace .ensures) (r .1)
 
 same-length : tie.Need-same-length
 same-length c = search needs
 
 returns : tie.Need-returns
-returns c = lent-again (c .before .before .before .before .before .before .before .before .before .before .before .before .args .plan .now) _ (c .before .before .before .before .before .before .replace .last .1 .1 .1 .0) (replicate 160 0) (c .before .before .before .before .before .before .before .before .before .before .before .before .args .marks .now) _ _ (back (c .before .before .before .before .before .before)) (c .before .before .before .before .before .before .replace .ensures) (c .before .before .pass .ensures)
+returns c = lent-again (c .before .before .before .before .before .before .before .before .before .before .before .before .args .plan .now) _ (c .before .before .before .before .before .before .replace .last .1 .1 .1 .0) (replicate 160 0) (c .before .before .before .before .before .before .before .before .before .before .before .before .args .marks .now) _ _ (back (c .before .before .before .before .before .before)) (c .before .before .before .before .before .before .replace .ensures) (c .before .before .settle-all .ensures)
 
 pub pass-new-spec : {M : Type 1} → statement M
 pass-new-spec =

@@ -8,12 +8,12 @@ use borrow.Author.Tests.{eq-eqb, ne-eqb}
 use lib.ListN.{length}
 use Rattle.lists.specs.Seq.{allBelow}
 use Rattle.lists.proofs.Below.{below-more, below-stop, below-end}
-use Rattle.impact.proofs.ChangeLaws.{eqAt}
+use Rattle.impact.proofs.ChangeLaws.{sameAt}
 use Rattle.impact.proofs.same.Statement.{statement}
 use Rattle.impact.proofs.same.Tie as tie
 
 abbrev Inv-loop : tie.InvT-loop
-Inv-loop a b n v₀ v = (v ≤ n) × (n ≤ length a) × (n ≤ length b) × (allBelow (eqAt a b) v ≡ true)
+Inv-loop a b n v₀ v = (v ≤ n) × (n ≤ length a) × (n ≤ length b) × (allBelow (sameAt a b) v ≡ true)
 
 abbrev μ-loop : tie.MeasureT-loop
 μ-loop a b n v₀ v = n - v
@@ -29,7 +29,7 @@ shared-slice-read-if1-2 : tie.Need-shared-slice-read-if1-2 Inv-loop μ-loop
 shared-slice-read-if1-2 c = search needs
 
 returns : tie.Need-returns Inv-loop μ-loop
-returns c = sym (below-stop (eqAt (c .before .before .before .before .before .args .a .now) (c .before .before .before .before .before .args .b .now)) _ _ (c .before .before .before .loop-test .taken) (ne-eqb _ _ (c .if1 .taken)))
+returns c = sym (below-stop (sameAt (c .before .before .before .before .before .args .a .now) (c .before .before .before .before .before .args .b .now)) _ _ (c .before .before .before .loop-test .taken) (ne-eqb _ _ (c .if1 .taken)))
 
 add-v : tie.Need-add-v Inv-loop μ-loop
 add-v c = search needs
@@ -38,10 +38,10 @@ loop-less : tie.Need-loop-less Inv-loop μ-loop
 loop-less c = search needs
 
 loop-again : tie.Need-loop-again Inv-loop μ-loop
-loop-again c = let i = c .before .before .before .before .loop .inv in (search needs, i .1, i .2, below-more (eqAt (c .before .before .before .before .before .args .a .now) (c .before .before .before .before .before .args .b .now)) _ (i .3) (eq-eqb _ _ (c .if1 .left)))
+loop-again c = let i = c .before .before .before .before .loop .inv in (search needs, i .1, i .2, below-more (sameAt (c .before .before .before .before .before .args .a .now) (c .before .before .before .before .before .args .b .now)) _ (i .3) (eq-eqb _ _ (c .if1 .left)))
 
 returns-2 : tie.Need-returns-2 Inv-loop μ-loop
-returns-2 c = let i = c .before .loop .inv in sym (below-end (eqAt (c .before .before .args .a .now) (c .before .before .args .b .now)) _ _ (i .3) (i .0) (c .loop-test .left))
+returns-2 c = let i = c .before .loop .inv in sym (below-end (sameAt (c .before .before .args .a .now) (c .before .before .args .b .now)) _ _ (i .3) (i .0) (c .loop-test .left))
 
 pub same-spec : {M : Type 1} → statement M
 same-spec =
