@@ -383,7 +383,7 @@ mod tests {
     #[test]
     fn all_small_plans_are_there() {
         assert_eq!(all(1), [[TASK, NO_PARENT]]);
-        assert_eq!([2, 3, 4].map(|nodes| all(nodes).len()), [6, 43, 439]);
+        assert_eq!([2, 3, 4].map(|nodes| all(nodes).len()), [6, 43, 390]);
     }
 
     #[test]
