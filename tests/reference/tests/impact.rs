@@ -38,10 +38,13 @@ fn plan_p() {
     assert_eq!(changed(P, &all_work, 5, 1), Ok(vec![3, 3, 3, 3, 5, 3]), "the answer that is there");
 }
 
+/// The marks of three nodes, or a refusal.
+type Marks = Result<[u8; 3], u32>;
+
 /// A block with two tasks: what becomes of it when one of them ends otherwise.
 #[test]
 fn each_kind_above() {
-    let cases: [(&str, [u8; 3], u32, u32, Result<[u8; 3], u32>); 26] = [
+    let cases: [(&str, [u8; 3], u32, u32, Marks); 26] = [
         ("02ff 0100 0100", [9, 1, 1], 1, 2, Ok([4, 4, 0])),
         ("02ff 0100 0100", [9, 1, 1], 2, 2, Ok([4, 3, 4])),
         ("02ff 0100 0100", [9, 2, 1], 1, 1, Ok([3, 3, 3])),
