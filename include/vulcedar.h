@@ -253,10 +253,10 @@ uint32_t vulcedar_pass(const uint8_t *plan, size_t plan_len, const uint8_t *answ
  * What if one task ended otherwise? answers and marks are those of a pass, task a node that is a task, answer its new one: 1
  * works, 2 fails, as for vulcedar_pass. On 0 marks is what vulcedar_pass leaves for the answers with the new one in the
  * task's place; it changes only at the task, at blocks above it, and in the subtrees of later siblings of any of these whose
- * parent is a serial or a contingency. answers is left: store the new answer there, and the next change can follow. To undo a
- * change, call with the old answer. 1 to 6; 7; 8; 9; the first of 13 and 14 that the pass over the answers meets; 13 for an
- * answer above 255; the first of 13 and 14 that the pass over the new answers meets; 28 if the marks are not those of the
- * pass over the answers.
+ * parent is a serial or a contingency. answers is left: store the new answer there, and the next change can follow; the one
+ * with the old answer brings the old marks back. 1 to 6; 7; 8; 9; the first of 13 and 14 that the pass over the answers meets;
+ * 13 for an answer above 255; the first of 13 and 14 that the pass over the new answers meets; 28 if the marks are not those
+ * of the pass over the answers.
  */
 uint32_t vulcedar_impact(const uint8_t *plan, size_t plan_len, const uint8_t *answers, size_t answers_len, uint8_t *marks,
                          size_t marks_len, uint32_t task, uint32_t answer);
