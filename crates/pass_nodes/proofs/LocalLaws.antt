@@ -3,7 +3,6 @@
 use mathlib.Core.Path.{_≡_, refl, sym, _∙_, ap, ap₂, subst}
 use mathlib.Core.Bool.{cond}
 use mathlib.Core.List.{List, [], _∷_}
-use mathlib.Core.Logic.{_⊎_, inl, inr}
 use Prim.Native.Nat.{ℕ, zero, suc, _+_, _≤_, _<_}
 use lib.Dec.{eqb}
 use lib.ListN.{getD}
@@ -13,7 +12,7 @@ use Rattle.lists.specs.Member.{In, here, there}
 use Rattle.lists.proofs.Logic.{cases, decided}
 use Rattle.plan.specs.Plan.{Kind, size, kind, parent, children}
 use Rattle.plan.specs.Check.{Accepted}
-use Rattle.plan.specs.Under.{Under, self, up, Below}
+use Rattle.plan.specs.Under.{Under, up, Below}
 use Rattle.plan.proofs.PlanLaws.{child-of}
 use Rattle.plan.proofs.AcceptedLaws.{child-between, parent-child}
 use Rattle.plan.proofs.UnderLaws.{under-trans, under-child, under-below}

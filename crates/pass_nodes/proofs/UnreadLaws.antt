@@ -1,6 +1,6 @@
 -- Answers that the pass does not read are free. Assumes nothing.
 use mathlib.Core.Path.{_≡_, refl, sym, _∙_, ap, ap₂}
-use mathlib.Core.Bool.{Bool, true, false, cond, _&&_, not}
+use mathlib.Core.Bool.{Bool, true, false, cond}
 use mathlib.Core.List.{List, [], _∷_}
 use mathlib.Core.Logic.{_⊎_, inl, inr}
 use Prim.Native.Nat.{ℕ, zero, suc, _+_, _≤_, _<_}
@@ -15,13 +15,13 @@ use Rattle.plan.specs.Plan.{Kind, task, serial, and, or, xor, contingency, cond
 use Rattle.plan.specs.Check.{Accepted}
 use Rattle.plan.proofs.PlanLaws.{rising-children}
 use Rattle.plan.proofs.AcceptedLaws.{child-between, parent-child}
-use Rattle.pass.specs.Pass.{Outcome, works, breaks, fault, Tally, goes, goesBy, note, skip, nothing, badAnswer, badPick, closes, goodMark, childMark, ending, endOf, numberOf, rootMark, pass}
+use Rattle.pass.specs.Pass.{Outcome, works, breaks, fault, Tally, goes, goesBy, note, skip, nothing, badAnswer, badPick, closes, goodMark, childMark, endOf, numberOf, rootMark, pass}
 use Rattle.pass_nodes.specs.Nodes.{counted, tallied, endBy, endAt, nextMark, markAmong, gives, markAt, hasAnswer, Read}
 use Rattle.pass_nodes.specs.Claim.{UnreadFree}
-use Rattle.pass_nodes.proofs.EndLaws.{Clean, CleanNode, end-clean, count-on, count-off, next-on, next-off, first-sound}
+use Rattle.pass_nodes.proofs.EndLaws.{Clean, end-clean, count-off, next-on, next-off, first-sound}
 use Rattle.pass_nodes.proofs.MarkLaws.{clean-mark}
 use Rattle.pass_nodes.proofs.NodeLaws.{root-on, pass-by-nodes}
-use Rattle.pass_nodes.proofs.ReachedLaws.{Reached, node, reached, child-on, child-off, gives-is}
+use Rattle.pass_nodes.proofs.ReachedLaws.{node, reached, child-on, child-off, gives-is}
 
 -- kinds whose answer is not read
 abbrev Deaf : Kind → Type 0

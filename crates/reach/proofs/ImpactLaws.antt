@@ -2,25 +2,25 @@
 use mathlib.Core.Path.{_≡_, refl, sym, _∙_, ap}
 use mathlib.Core.Bool.{Bool, true, false, cond, not, _&&_}
 use mathlib.Core.List.{List}
-use mathlib.Core.Logic.{_↔_, _⊎_, inl, inr}
-use Prim.Native.Nat.{ℕ, zero, suc, _<_, _≤_}
+use mathlib.Core.Logic.{_⊎_, inl, inr}
+use Prim.Native.Nat.{ℕ, _<_, _≤_}
 use lib.Dec.{eqb, ltb, leb}
 use lib.ListN.{length, getD, set, length-set}
 use lib.Seq.{ext-getD, getD-set-other, set-set, set-getD}
-use borrow.Author.Tests.{eqb-true, eqb-false, eq-eqb, ne-eqb, ltb-true, lt-ltb, leb-true, le-leb}
+use borrow.Author.Tests.{eqb-true, eqb-false, eq-eqb, ltb-true, lt-ltb, leb-true, le-leb}
 use native.Mathlib.Omega.{arith}
-use Rattle.lists.proofs.Logic.{cases, decided, and-left, and-right, and-join, clash, test-passed, number-passed}
+use Rattle.lists.proofs.Logic.{cases, decided, and-left, and-right, and-join, test-passed, number-passed}
 use Rattle.lists.proofs.Below.{below-at, below-by}
 use Rattle.plan.specs.Plan.{task, isKind, kindNumber, size, kind}
 use Rattle.plan.specs.Check.{Accepted}
 use Rattle.plan.proofs.KindLaws.{same-kind}
 use Rattle.plan.proofs.Main.{fit-exact}
-use Rattle.pass.specs.Pass.{PassResult, passResult, pass, passNumber, passInto}
+use Rattle.pass.specs.Pass.{passResult, pass, passNumber, passInto}
 use Rattle.pass_nodes.specs.Nodes.{markAt}
 use Rattle.pass_nodes.proofs.NodeLaws.{marks-length}
 use Rattle.reach.specs.Reach.{OneTask, InReach}
 use Rattle.reach.specs.Impact.{areMarks, newNumber, changeNumber, impactNumber, impactInto}
-use Rattle.reach.specs.Claim.{Changed, ImpactRight, ImpactPasses, ImpactNone}
+use Rattle.reach.specs.Claim.{ImpactRight, ImpactPasses, ImpactNone}
 use Rattle.reach.proofs.ReachLaws.{one-reaches}
 
 -- a pass into m that leaves n: the plan and the lengths are right, the answers are accepted, and n are its marks

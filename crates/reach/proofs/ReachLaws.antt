@@ -13,7 +13,7 @@ use Rattle.lists.proofs.Logic.{cases, decided}
 use Rattle.lists.proofs.Members.{in-some}
 use Rattle.plan.specs.Plan.{task, xor, kindNumber, size, kind, parent, children}
 use Rattle.plan.specs.Check.{Accepted}
-use Rattle.plan.specs.Under.{Under, self, up, Below}
+use Rattle.plan.specs.Under.{Under, self, Below}
 use Rattle.plan.proofs.PlanLaws.{child-of, rising-children}
 use Rattle.plan.proofs.AcceptedLaws.{child-between, parent-child}
 use Rattle.plan.proofs.UnderLaws.{under-low, under-trans, child-under, under-below, apart, through, under-root, under?}
@@ -24,7 +24,7 @@ use Rattle.pass_nodes.proofs.EndLaws.{clean-number}
 use Rattle.pass_nodes.proofs.ReachedLaws.{endOfMark, reached, node, child-on, child-off, gives-is, above-reached}
 use Rattle.pass_nodes.proofs.Main.{pass-by-nodes, ends-under, marks-below, same-elsewhere, unread-free}
 use Rattle.reach.specs.Reach.{OneTask, Follows, InReach, above, after}
-use Rattle.reach.specs.Claim.{Reaches, OneReaches}
+use Rattle.reach.specs.Claim.{OneReaches}
 use Rattle.reach.proofs.AmongLaws.{among-before, inTurn, turn-kinds, among-free, xor-end}
 
 swapped : (p a b : List ℕ) (t : ℕ) → OneTask p a b t → OneTask p b a t
