@@ -113,7 +113,7 @@ module _ (p : List ℕ) (ok : Accepted p) (a b : List ℕ) (t : ℕ) (h : OneTas
         (λ e. inl (cases (decided (eqb (markAt p a u) 0))
         (λ q. let o = eqb-true (markAt p a u) 0 q in child-off p ok a (h .first) u w i o ∙ sym (child-off p ok b (h .second) u w i (sym e ∙ o)))
         (λ q. let o = eqb-false (markAt p a u) 0 q in
-        marks-below p ok a b u u-in (same-aside u n) (h .first) (h .second) o (λ z. o (e ∙ z)) w (child-between p ok u i .1) (under-below p u w lower (child-under p u w i)))))
+        marks-below p ok a b u (same-aside u n) (h .first) (h .second) o (λ z. o (e ∙ z)) w (child-between p ok u i .1) (under-below p u w lower (child-under p u w i)))))
         (λ s. inr (deeper s))
       where
         lower : u ≡ w → ⊥
@@ -165,7 +165,7 @@ module _ (p : List ℕ) (ok : Accepted p) (a b : List ℕ) (t : ℕ) (h : OneTas
     low = let l = under-low p ok u t (h .within) x in omega (arith, h .within)
 
     beside-alike : endAt p a u ≡ endAt p b u → (w : ℕ) → w < size p → (Below p u w → ⊥) → markAt p a w ≡ markAt p b w
-    beside-alike e = same-elsewhere p ok a b u low (λ w s n. h .same w (λ q. n (subst (Under p u) (sym q) x))) e .1 (h .first)
+    beside-alike e = same-elsewhere p ok a b u (λ w s n. h .same w (λ q. n (subst (Under p u) (sym q) x))) e .1 (h .first)
 
     outside : markAt p a u ≡ markAt p b u → (w : ℕ) → w < size p → (Below p u w → ⊥) → markAt p a w ≡ markAt p b w
     outside e w s n = cases met
