@@ -80,6 +80,10 @@ oneOf = 5 ∷ 255 ∷ 3 ∷ 0 ∷ 1 ∷ 1 ∷ 1 ∷ 1 ∷ 1 ∷ 0 ∷ []
 abbrev crossed : List ℕ
 crossed = 2 ∷ 255 ∷ 3 ∷ 0 ∷ 1 ∷ 0 ∷ 1 ∷ 1 ∷ []
 
+-- serial 0: serial 1 of tasks 2 and 3, task 4
+abbrev nested : List ℕ
+nested = 2 ∷ 255 ∷ 2 ∷ 0 ∷ 1 ∷ 1 ∷ 1 ∷ 1 ∷ 1 ∷ 0 ∷ []
+
 -- n serials and a task, each the only child of the node before, from u on
 pub links : ℕ → ℕ → List ℕ
 links zero u = 1 ∷ u ∷ []
@@ -270,12 +274,15 @@ behind p c u s e x f = cases (above-child p u c e x)
     lower : 0 < u → u ≡ 0 → ⊥
     lower l q = omega arith
 
--- O2: nothing else is in reach. Earlier siblings and their subtrees, be their numbers higher; and siblings below any other block
+-- O2: nothing else is in reach. Earlier siblings and their subtrees, be their numbers higher, or one behind the other in a serial; siblings below any
+-- other block, though something follows that block
 abbrev pub Spared : Type 0
 Spared =
     (InReach P 5 1 → ⊥)
     × (InReach P 5 4 → ⊥)
     × (InReach crossed 2 3 → ⊥)
+    × (InReach nested 4 3 → ⊥)
+    × (InReach P 3 4 → ⊥)
     × (InReach (pair 3) 1 2 → ⊥)
     × (InReach (pair 4) 1 2 → ⊥)
     × (InReach (pair 5) 1 2 → ⊥)
@@ -295,6 +302,23 @@ spared-pair k n2 n6 = spared (pair k) 1 2 refl (λ x. cases (above-child (pair k
     other : (kind (pair k) 0 ≡ serial) ⊎ (kind (pair k) 0 ≡ contingency) → ⊥
     other e = unfold kindNumber in cases e (λ q. eqb-false _ 2 n2 (ap kindNumber q)) (λ q. eqb-false _ 6 n6 (ap kindNumber q))
 
+-- from a child of the xor in P
+picked : InReach P 3 4 → ⊥
+unfolding parent kind kindOf kindByte
+picked (above x) = cases (above-grandchild P 4 3 2 refl refl x) (λ q. omega arith) (λ q. cases q (λ z. omega arith) (λ z. omega arith))
+picked (after u s x f y) = cases (above-grandchild P u 3 2 refl refl x)
+    (λ q. other (ap (parent P) q) (f .in-turn))
+    (λ q. cases q (λ z. behind-xor s (behind P 2 u s refl (self z) f) (above-grandchild P s 4 2 refl refl y)) (λ z. let l = f .inner in omega arith))
+  where
+    other : parent P u ≡ parent P 3 → (kind P (parent P u) ≡ serial) ⊎ (kind P (parent P u) ≡ contingency) → ⊥
+    other e h = unfold parent kind kindOf kindByte kindNumber in
+        cases h (λ q. let z : _≡_ {A = ℕ} 5 2 = sym (ap (λ v. kindNumber (kind P v)) e) ∙ ap kindNumber q in omega arith)
+        (λ q. let z : _≡_ {A = ℕ} 5 6 = sym (ap (λ v. kindNumber (kind P v)) e) ∙ ap kindNumber q in omega arith)
+
+    behind-xor : (s : ℕ) → Behind P 2 s → (s ≡ 4) ⊎ (s ≡ 2) ⊎ (s ≡ 0) → ⊥
+    behind-xor s b h = cases h (λ q. let z : _≡_ {A = ℕ} 2 0 = unfold parent in sym (ap (parent P) q) ∙ b .sibling in omega arith)
+        (λ q. cases q (λ z. omega (arith, b .later)) (λ z. omega (arith, b .later)))
+
 pub all-spared : Spared
 unfolding parent kind kindOf kindByte kindNumber
 all-spared = (
@@ -304,6 +328,9 @@ all-spared = (
       (λ s b y. cases (above-grandchild P s 4 2 refl refl y) (λ q. omega (arith, b .later)) (λ q. cases q (λ z. omega (arith, b .later)) (λ z. omega (arith, b .later)))),
   spared crossed 2 3 refl (λ x. cases (above-child crossed 3 2 refl x) (λ q. omega arith) (λ q. omega arith))
       (λ s b y. cases (above-grandchild crossed s 3 1 refl refl y) (λ q. cross s b q) (λ q. cases q (λ z. omega (arith, b .later)) (λ z. omega (arith, b .later)))),
+  spared nested 4 3 refl (λ x. cases (above-child nested 3 4 refl x) (λ q. omega arith) (λ q. omega arith))
+      (λ s b y. cases (above-grandchild nested s 3 1 refl refl y) (λ q. omega (arith, b .later)) (λ q. cases q (λ z. omega (arith, b .later)) (λ z. omega (arith, b .later)))),
+  picked,
   spared-pair 3 refl refl,
   spared-pair 4 refl refl,
   spared-pair 5 refl refl,
