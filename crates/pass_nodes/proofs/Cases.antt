@@ -108,10 +108,11 @@ Given =
     × (map (gives P P9 1) (upFrom 0 7) ≡ 0 ∷ 0 ∷ 0 ∷ 0 ∷ 0 ∷ 0 ∷ 0 ∷ [])
     × (map (gives P P10 0) (upFrom 0 7) ≡ 0 ∷ 4 ∷ 0 ∷ 0 ∷ 0 ∷ 0 ∷ 0 ∷ [])
     × (map (gives P P10 2) (upFrom 0 7) ≡ 0 ∷ 0 ∷ 0 ∷ 3 ∷ 5 ∷ 0 ∷ 0 ∷ [])
+    × (map (gives P (0 ∷ 1 ∷ 2 ∷ 1 ∷ 1 ∷ 1 ∷ []) 2) (upFrom 0 7) ≡ 0 ∷ 0 ∷ 0 ∷ 5 ∷ 3 ∷ 0 ∷ 0 ∷ [])
 
 pub given : Given
 unfolding gives markAmong nextMark endAt endWithin endBy tallied counted nothing endOf ending note skip childMark goodMark closes badPick badAnswer oneOrTwo goes goesBy kindNumber isKind kindOf size kindByte kind parent childrenBelow children keep upFrom
-given = (refl, refl, refl, refl, refl)
+given = (refl, refl, refl, refl, refl, refl)
 
 -- F1: whose answers are looked at
 pub answering : map hasAnswer (task ∷ serial ∷ and ∷ or ∷ xor ∷ contingency ∷ conditional ∷ waiting ∷ []) ≡ true ∷ false ∷ false ∷ false ∷ true ∷ false ∷ true ∷ false ∷ []

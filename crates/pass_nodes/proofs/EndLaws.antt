@@ -1,4 +1,4 @@
--- How nodes end: what it depends on, that settling ends so, and that only a right end leaves a mark. Assumes nothing.
+-- How nodes end: what it depends on, that settling ends so, and what an end without a fault says of the children. Assumes nothing.
 use mathlib.Core.Path.{_≡_, refl, sym, _∙_, ap}
 use mathlib.Core.Bool.{Bool, true, false, cond}
 use mathlib.Core.List.{List, [], _∷_}

@@ -34,6 +34,9 @@ record Like (t u : Tally) : Type 0 where
   broke : t .broke ≡ u .broke
   wrong : t .wrong ≡ u .wrong
 
+like-same : (t : Tally) → Like t t
+like-same t = record { places = refl; worked = refl; broke = refl; wrong = refl }
+
 like-note : (x y : ℕ) (t u : Tally) (o : Outcome) → Like t u → Like (note x t o) (note y u o)
 unfolding note
 like-note x y t u works h = record { places = ap suc (h .places); worked = refl; broke = h .broke; wrong = h .wrong }
@@ -121,7 +124,7 @@ module _ (x y : ℕ) where
     deaf-end : (cs : List ℕ) → endBy k x e cs ≡ endBy k y e cs
     unfolding endBy
     deaf-end cs = rw (bad-none k d x, bad-none k d y)
-        (like-end k d _ _ (like-tally cs nothing nothing (record { places = refl; worked = refl; broke = refl; wrong = refl })))
+        (like-end k d _ _ (like-tally cs nothing nothing (like-same nothing)))
 
 -- with other ends where no child is reached
 module _ (k : Kind) (x : ℕ) (e g : ℕ → Outcome) where
@@ -166,7 +169,7 @@ module _ (p : List ℕ) (ok : Accepted p) (a b : List ℕ) (z : pass p a .number
 
     hand-free : (e : ℕ → Outcome) (c : ℕ) → markAmong (kind p v) (getD b v 0) e (children p v) nothing c ≡ markAmong (kind p v) (getD a v 0) e (children p v) nothing c
     hand-free e c = cases answer (λ q. ap (λ x. markAmong (kind p v) x e (children p v) nothing c) (sym q))
-        (λ d. like-among (getD b v 0) (getD a v 0) (kind p v) d e (children p v) nothing nothing c (record { places = refl; worked = refl; broke = refl; wrong = refl }))
+        (λ d. like-among (getD b v 0) (getD a v 0) (kind p v) d e (children p v) nothing nothing c (like-same nothing))
 
     -- where the reached children end alike
     module _ (kids : (c : ℕ) → In c (children p v) → (markAt p a c ≡ 0 → ⊥) → endAt p b c ≡ endAt p a c) where

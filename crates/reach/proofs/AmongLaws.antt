@@ -102,7 +102,7 @@ unchosen e (c ∷ cs) t h = unchosen e cs (counted xor 0 t (e c)) (go (goes xor 
     go true (fault n) = h
     go false o = h
 
--- a tally's end without a fault: x is the answer, y whether it is 0
+-- an xor's end without a fault: y says whether its answer is 0
 xor-by : (y worked chosen : Bool) → (y ≡ true → chosen ≡ false) → numberOf (ending 0 (cond (cond worked chosen y) 0 14) worked) ≡ 0 →
     ending 0 (cond (cond worked chosen y) 0 14) worked ≡ cond y breaks works
 unfolding ending numberOf

@@ -7,7 +7,6 @@ use mathlib.Core.Logic.{_⊎_, inl, inr}
 use Prim.Native.Nat.{ℕ, zero, suc, _<_}
 use lib.Dec.{eqb, ltb}
 use lib.ListN.{set}
-use lib.Seq.{getD-set-other}
 use borrow.Author.Tests.{eqb-false, ltb-true}
 use native.Mathlib.Omega.{arith}
 use Rattle.lists.specs.Seq.{keep, upFrom, allBelow}
@@ -15,10 +14,13 @@ use Rattle.lists.proofs.Logic.{cases}
 use Rattle.plan.specs.Plan.{task, serial, contingency, kindNumber, isKind, kindOf, size, kindByte, kind, parent, childrenBelow, children, childCount, depthWithin, depth}
 use Rattle.plan.specs.Check.{lengthOk, kindOk, parentOk, underBlock, fits, countOk, depthOk, atAll, checkNumber, fitNumber}
 use Rattle.plan.specs.Under.{Under, self, up}
+use Rattle.plan.proofs.UnderLaws.{under-low}
+use Rattle.plan.proofs.Main.{check-exact}
 use Rattle.pass.specs.Pass.{PassResult, passResult, goesBy, goes, oneOrTwo, badAnswer, badPick, closes, goodMark, childMark, skip, note, ending, endOf, nothing, unwalked, childSettled, meetBy, meet, walk, close, settleIf, settleBy, settle, numberOf, rootMark, passOf, pass, passNumber}
 use Rattle.pass_nodes.specs.Nodes.{markAt}
 use Rattle.reach.specs.Reach.{OneTask, Follows, InReach, above, after}
 use Rattle.reach.specs.Impact.{areMarks, newNumber, changeNumber, impactNumber, impactInto}
+use Rattle.reach.proofs.ReachLaws.{one-set}
 
 -- a call, and its number with the marks that it leaves
 pub record Case : Type 0 where
@@ -209,7 +211,7 @@ Turns =
 turned : (p a : List ℕ) (t x w m n : ℕ) → ltb t (size p) ≡ true → kind p t ≡ task → pass p a .number ≡ 0 → pass p (set a t x) .number ≡ 0 → InReach p t w →
     markAt p a w ≡ m → markAt p (set a t x) w ≡ n → Turned p a t x w m n
 turned p a t x w m n l k za zb r was is = record {
-  one-task = record { within = ltb-true t (size p) l; is-task = k; same = λ v ne. sym (getD-set-other a t v x 0 ne); first = za; second = zb };
+  one-task = one-set p a t x (ltb-true t (size p) l) k za zb;
   in-reach = r;
   was = was;
   is = is;
@@ -274,14 +276,14 @@ behind p c u s e x f = cases (above-child p u c e x)
     lower : 0 < u → u ≡ 0 → ⊥
     lower l q = omega arith
 
--- O2: nothing else is in reach. Earlier siblings and their subtrees, be their numbers higher, or one behind the other in a serial; siblings below any
--- other block, though something follows that block
+-- O2: nothing else is in reach. Earlier siblings and their subtrees, though these be serials, or their numbers higher; siblings below any other block,
+-- though something follows that block
 abbrev pub Spared : Type 0
 Spared =
     (InReach P 5 1 → ⊥)
     × (InReach P 5 4 → ⊥)
-    × (InReach crossed 2 3 → ⊥)
     × (InReach nested 4 3 → ⊥)
+    × (InReach crossed 2 3 → ⊥)
     × (InReach P 3 4 → ⊥)
     × (InReach (pair 3) 1 2 → ⊥)
     × (InReach (pair 4) 1 2 → ⊥)
@@ -293,6 +295,15 @@ Spared =
 spared : (p : List ℕ) (t w : ℕ) → parent p t ≡ 0 → (Under p w t → ⊥) → ((s : ℕ) → Behind p t s → Under p s w → ⊥) → InReach p t w → ⊥
 spared p t w e n h (above x) = n x
 spared p t w e n h (after u s x f y) = h s (behind p t u s e x f) y
+
+-- a node before it
+spared-before : (p : List ℕ) (t w : ℕ) → checkNumber p ≡ 0 → ltb t (size p) ≡ true → parent p t ≡ 0 → ltb 0 w ≡ true → ltb w t ≡ true → InReach p t w → ⊥
+spared-before p t w ok l e pos before =
+    let i = ltb-true t (size p) l in
+    let j = ltb-true 0 w pos in
+    let k = ltb-true w t before in
+    spared p t w e (λ x. cases (above-child p w t e x) (λ q. omega arith) (λ q. omega arith))
+    (λ s b y. let low = under-low p (check-exact p .0 ok) s w (omega arith) y in omega (arith, b .later))
 
 -- siblings below a block of another kind
 spared-pair : (k : ℕ) → eqb (kindNumber (kind (pair k) 0)) 2 ≡ false → eqb (kindNumber (kind (pair k) 0)) 6 ≡ false → InReach (pair k) 1 2 → ⊥
@@ -320,16 +331,13 @@ picked (after u s x f y) = cases (above-grandchild P u 3 2 refl refl x)
         (λ q. cases q (λ z. omega (arith, b .later)) (λ z. omega (arith, b .later)))
 
 pub all-spared : Spared
-unfolding parent kind kindOf kindByte kindNumber
+unfolding checkNumber lengthOk atAll kindOk parentOk underBlock fits countOk depthOk kindOf size kindByte kind parent childrenBelow children childCount depthWithin depth keep upFrom allBelow kindNumber
 all-spared = (
-  spared P 5 1 refl (λ x. cases (above-child P 1 5 refl x) (λ q. omega arith) (λ q. omega arith))
-      (λ s b y. cases (above-child P s 1 refl y) (λ q. omega (arith, b .later)) (λ q. omega (arith, b .later))),
-  spared P 5 4 refl (λ x. cases (above-child P 4 5 refl x) (λ q. omega arith) (λ q. omega arith))
-      (λ s b y. cases (above-grandchild P s 4 2 refl refl y) (λ q. omega (arith, b .later)) (λ q. cases q (λ z. omega (arith, b .later)) (λ z. omega (arith, b .later)))),
+  spared-before P 5 1 refl refl refl refl refl,
+  spared-before P 5 4 refl refl refl refl refl,
+  spared-before nested 4 3 refl refl refl refl refl,
   spared crossed 2 3 refl (λ x. cases (above-child crossed 3 2 refl x) (λ q. omega arith) (λ q. omega arith))
       (λ s b y. cases (above-grandchild crossed s 3 1 refl refl y) (λ q. cross s b q) (λ q. cases q (λ z. omega (arith, b .later)) (λ z. omega (arith, b .later)))),
-  spared nested 4 3 refl (λ x. cases (above-child nested 3 4 refl x) (λ q. omega arith) (λ q. omega arith))
-      (λ s b y. cases (above-grandchild nested s 3 1 refl refl y) (λ q. omega (arith, b .later)) (λ q. cases q (λ z. omega (arith, b .later)) (λ z. omega (arith, b .later)))),
   picked,
   spared-pair 3 refl refl,
   spared-pair 4 refl refl,

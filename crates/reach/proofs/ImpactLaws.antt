@@ -1,4 +1,4 @@
--- The call: its number is 0 just where O6 says, and what it then leaves. Assumes nothing.
+-- The call: its number is 0 just where O6 says, which number it has otherwise, and what it leaves. Assumes nothing.
 use mathlib.Core.Path.{_≡_, refl, sym, _∙_, ap, subst}
 use mathlib.Core.Bool.{Bool, true, false, cond, not, _&&_}
 use mathlib.Core.List.{List}
@@ -22,7 +22,7 @@ use Rattle.pass_nodes.proofs.Main.{unread-free}
 use Rattle.reach.specs.Reach.{OneTask, InReach}
 use Rattle.reach.specs.Impact.{areMarks, newNumber, changeNumber, impactNumber, impactInto}
 use Rattle.reach.specs.Claim.{Asked, Numbers, ImpactRight, ImpactPasses, ImpactNumbers, ImpactUnread, ImpactNone}
-use Rattle.reach.proofs.ReachLaws.{one-reaches}
+use Rattle.reach.proofs.ReachLaws.{one-set, one-reaches}
 
 -- a pass into m that leaves n: the plan and the lengths are right, the answers are accepted, and n are its marks
 pub record Taken (p a m n : List ℕ) : Type 0 where
@@ -107,10 +107,13 @@ module _ (p a m : List ℕ) (t x : ℕ) where
       byte true e h = (e, h)
       byte false e h = absurd (omega arith)
 
+  long : Meets p a m t x → length m ≡ size p
+  long h = ap length (h .marks) ∙ marks-length p (h .accepted) a (h .old)
+
   pub met : Meets p a m t x → impactNumber p a m t x ≡ 0
   unfolding impactNumber changeNumber newNumber isKind kindNumber
   met h = rw (
-    taken-fits p a m (h .accepted) (h .answers) (ap length (h .marks) ∙ marks-length p (h .accepted) a (h .old)),
+    taken-fits p a m (h .accepted) (h .answers) (long h),
     lt-ltb t (size p) (h .node),
     h .is-task,
     h .old,
@@ -131,13 +134,13 @@ module _ (p a m : List ℕ) (t x : ℕ) where
 
   module _ (h : Meets p a m t x) where
     pub one-task : OneTask p a (set a t x) t
-    one-task = record { within = h .node; is-task = h .is-task; same = λ w ne. sym (getD-set-other a t w x 0 ne); first = h .old; second = h .new }
+    one-task = one-set p a t x (h .node) (h .is-task) (h .old) (h .new)
 
     old-taken : Taken p a m m
     old-taken = record {
       accepted = h .accepted;
       answers = h .answers;
-      marks = ap length (h .marks) ∙ marks-length p (h .accepted) a (h .old);
+      marks = long h;
       number = h .old;
       left = h .marks;
     }
@@ -228,8 +231,7 @@ pub impact-unread : ImpactUnread
 impact-unread p a m t x l k old off byte =
     let h = taken p a m m old in
     let free = unread-free p (h .accepted) a (set a t x) (h .number) read in
-    impact-passes p (h .accepted) a m t x old byte
-    (record { within = l; is-task = k; same = λ w ne. sym (getD-set-other a t w x 0 ne); first = h .number; second = free .0 })
+    impact-passes p (h .accepted) a m t x old byte (one-set p a t x l k (h .number) (free .0))
     ∙ ap (passResult 0) (same-marks h free ∙ sym (h .left))
   where
     read : (v : ℕ) → v < size p → Read p a v → getD a v 0 ≡ getD (set a t x) v 0

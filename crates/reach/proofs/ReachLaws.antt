@@ -5,7 +5,8 @@ use mathlib.Core.List.{List}
 use mathlib.Core.Logic.{_⊎_, inl, inr}
 use Prim.Native.Nat.{ℕ, zero, suc, _≤_, _<_}
 use lib.Dec.{eqb, ltb}
-use lib.ListN.{getD, length}
+use lib.ListN.{getD, length, set}
+use lib.Seq.{getD-set-other}
 use borrow.Author.Tests.{eqb-true, eqb-false, ltb-true, ltb-false}
 use native.Mathlib.Omega.{arith}
 use Rattle.lists.specs.Member.{In}
@@ -30,6 +31,10 @@ use Rattle.reach.proofs.AmongLaws.{among-before, inTurn, turn-kinds, am
 swapped : (p a b : List ℕ) (t : ℕ) → OneTask p a b t → OneTask p b a t
 swapped p a b t h = record { within = h .within; is-task = h .is-task; same = λ w n. sym (h .same w n); first = h .second; second = h .first }
 
+-- x in the task's place
+pub one-set : (p a : List ℕ) (t x : ℕ) → t < size p → kind p t ≡ task → pass p a .number ≡ 0 → pass p (set a t x) .number ≡ 0 → OneTask p a (set a t x) t
+one-set p a t x l k za zb = record { within = l; is-task = k; same = λ w ne. sym (getD-set-other a t w x 0 ne); first = za; second = zb }
+
 module _ (p : List ℕ) (ok : Accepted p) (a b : List ℕ) (t : ℕ) (h : OneTask p a b t) where
   -- a task that is not reached changes nothing
   unreached : markAt p a t ≡ 0 → (w : ℕ) → w < size p → markAt p a w ≡ markAt p b w
@@ -42,7 +47,7 @@ module _ (p : List ℕ) (ok : Accepted p) (a b : List ℕ) (t : ℕ) (h : OneTas
   same-aside : (d : ℕ) → (Under p d t → ⊥) → SameUnder p a b d
   same-aside d n w s x = h .same w (λ e. n (subst (Under p d) e x))
 
-  -- a block above the task
+  -- the task has no child
   no-parent : (u c : ℕ) → In c (children p u) → u ≡ t → ⊥
   no-parent u c i e =
       let some = in-some (subst (λ z. In c (children p z)) e i) in
