@@ -29,11 +29,11 @@ use Rattle.reach.specs.Claim.{OneReaches}
 use Rattle.reach.proofs.AmongLaws.{among-before, inTurn, turn-kinds, among-free, xor-end}
 
 swapped : (p a b : List ℕ) (t : ℕ) → OneTask p a b t → OneTask p b a t
-swapped p a b t h = record { within = h .within; is-task = h .is-task; same = λ w n. sym (h .same w n); first = h .second; second = h .first }
+swapped p a b t h = record { within = h .within; is-task = h .is-task; same = λ w s n. sym (h .same w s n); first = h .second; second = h .first }
 
 -- x in the task's place
 pub one-set : (p a : List ℕ) (t x : ℕ) → t < size p → kind p t ≡ task → pass p a .number ≡ 0 → pass p (set a t x) .number ≡ 0 → OneTask p a (set a t x) t
-one-set p a t x l k za zb = record { within = l; is-task = k; same = λ w ne. sym (getD-set-other a t w x 0 ne); first = za; second = zb }
+one-set p a t x l k za zb = record { within = l; is-task = k; same = λ w s ne. sym (getD-set-other a t w x 0 ne); first = za; second = zb }
 
 module _ (p : List ℕ) (ok : Accepted p) (a b : List ℕ) (t : ℕ) (h : OneTask p a b t) where
   -- a task that is not reached changes nothing
@@ -41,11 +41,11 @@ module _ (p : List ℕ) (ok : Accepted p) (a b : List ℕ) (t : ℕ) (h : OneTas
   unreached z w s = sym (unread-free p ok a b (h .first) read .1 w s)
     where
       read : (v : ℕ) → v < size p → Read p a v → getD a v 0 ≡ getD b v 0
-      read v l r = h .same v (λ e. r .reached (subst (λ y. markAt p a y ≡ 0) (sym e) z))
+      read v l r = h .same v l (λ e. r .reached (subst (λ y. markAt p a y ≡ 0) (sym e) z))
 
   -- lists that differ at t are the same in a subtree that t is not in
   same-aside : (d : ℕ) → (Under p d t → ⊥) → SameUnder p a b d
-  same-aside d n w s x = h .same w (λ e. n (subst (Under p d) e x))
+  same-aside d n w s x = h .same w s (λ e. n (subst (Under p d) e x))
 
   -- the task has no child
   no-parent : (u c : ℕ) → In c (children p u) → u ≡ t → ⊥
@@ -63,7 +63,7 @@ module _ (p : List ℕ) (ok : Accepted p) (a b : List ℕ) (t : ℕ) (h : OneTas
     u-in = let q = child-between p ok u i in omega arith
 
     answer : getD a u 0 ≡ getD b u 0
-    answer = h .same u (no-parent u w i)
+    answer = h .same u u-in (no-parent u w i)
 
     -- what u gives to w
     module _ (x : Under p u t)
@@ -170,7 +170,7 @@ module _ (p : List ℕ) (ok : Accepted p) (a b : List ℕ) (t : ℕ) (h : OneTas
     low = let l = under-low p ok u t (h .within) x in omega (arith, h .within)
 
     beside-alike : endAt p a u ≡ endAt p b u → (w : ℕ) → w < size p → (Below p u w → ⊥) → markAt p a w ≡ markAt p b w
-    beside-alike e = same-elsewhere p ok a b u (λ w s n. h .same w (λ q. n (subst (Under p u) (sym q) x))) e .1 (h .first)
+    beside-alike e = same-elsewhere p ok a b u (λ w s n. h .same w s (λ q. n (subst (Under p u) (sym q) x))) e .1 (h .first)
 
     outside : markAt p a u ≡ markAt p b u → (w : ℕ) → w < size p → (Below p u w → ⊥) → markAt p a w ≡ markAt p b w
     outside e w s n = cases met
@@ -193,7 +193,7 @@ module _ (p : List ℕ) (ok : Accepted p) (a b : List ℕ) (t : ℕ) (h : OneTas
     xors k = cases met
         (λ m. beside-alike
         (xor-says p ok a (h .first) u low k (above-reached p ok a (h .first) u t (h .within) x (m .0))
-        ∙ ap (λ y. cond (eqb y 0) breaks works) (h .same u (xor-no-task k))
+        ∙ ap (λ y. cond (eqb y 0) breaks works) (h .same u low (xor-no-task k))
         ∙ sym (xor-says p ok b (h .second) u low k (above-reached p ok b (h .second) u t (h .within) x (m .1)))) u low (not-below u (self refl)))
         (λ all. all u low)
       where
