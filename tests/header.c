@@ -1,7 +1,7 @@
 /*
  * What include/vulcedar.h and docs/GUIDE.md say about calling, tried: null pointers with length 0, where a result has a
- * site, the rule beside a guard, the common table, the version, a journal and its points, plans with desks, and what a false
- * message does. Compiled as C and as C++.
+ * site, the rule beside a guard, the common table, the version, a journal and its points, plans with desks, one answer of a
+ * pass changed, and what a false message does. Compiled as C and as C++.
  */
 #include <inttypes.h>
 #include <stdio.h>
@@ -16,6 +16,7 @@ LAYOUT(entry, sizeof(vulcedar_entry) == 4 && offsetof(vulcedar_entry, code) == 0
 LAYOUT(entry_behind, offsetof(vulcedar_entry, site) == 2 && offsetof(vulcedar_entry, changed) == 3);
 LAYOUT(points, sizeof(vulcedar_points) == 256 && offsetof(vulcedar_points, names) == 0 && offsetof(vulcedar_points, places) == 128);
 LAYOUT(limits, VULCEDAR_POINTS_MOST == 16 && VULCEDAR_NAME_LENGTH == 8 && VULCEDAR_UNKNOWN_POINT == 19 && VULCEDAR_NO_FREE_POINT == 20);
+LAYOUT(marks, VULCEDAR_BAD_MARKS == 28 && VULCEDAR_BAD_ANSWER == 13 && VULCEDAR_BAD_PICK == 14);
 LAYOUT(desks, VULCEDAR_DESK_HIGHEST == 0x9f && VULCEDAR_BAD_DESK == 22 && VULCEDAR_DESK_HIGHEST + 1 == VULCEDAR_NODES_MOST);
 
 static int wrong;
@@ -50,6 +51,7 @@ static void nulls(void)
     expect("step of nothing", vulcedar_step(NULL, 0, VULCEDAR_START, 0, NULL, 0), VULCEDAR_BAD_LENGTH);
     expect("hear of nothing", vulcedar_hear(NULL, 0, VULCEDAR_START, 0, NULL, 0), VULCEDAR_BAD_LENGTH);
     expect("pass of nothing", vulcedar_pass(NULL, 0, NULL, 0, NULL, 0), VULCEDAR_BAD_LENGTH);
+    expect("a change in nothing", vulcedar_impact(NULL, 0, NULL, 0, NULL, 0, 0, 1), VULCEDAR_BAD_LENGTH);
     expect("simulate of nothing", vulcedar_simulate(NULL, 0, VULCEDAR_START, 0, 0, NULL, 0), VULCEDAR_BAD_LENGTH);
     expect("keep of nothing", vulcedar_keep(NULL, 0, VULCEDAR_START, 0, 0, NULL, 0, NULL, 0, &count), VULCEDAR_BAD_LENGTH);
     expect("undo of nothing", vulcedar_undo(NULL, 0, NULL, 0, NULL, 0, &count), VULCEDAR_BAD_LENGTH);
@@ -72,6 +74,7 @@ static void nulls(void)
     expect("step on nothing", vulcedar_step(plan, sizeof plan, VULCEDAR_START, 0, NULL, 0), VULCEDAR_BAD_BUFFER);
     expect("hear on nothing", vulcedar_hear(plan, sizeof plan, VULCEDAR_START, 0, NULL, 0), VULCEDAR_BAD_BUFFER);
     expect("pass without answers", vulcedar_pass(plan, sizeof plan, NULL, 0, NULL, 0), VULCEDAR_BAD_BUFFER);
+    expect("a change without answers", vulcedar_impact(plan, sizeof plan, NULL, 0, NULL, 0, 0, 1), VULCEDAR_BAD_BUFFER);
     expect("simulate on nothing", vulcedar_simulate(plan, sizeof plan, VULCEDAR_START, 0, VULCEDAR_HAPPENS, NULL, 0), VULCEDAR_BAD_BUFFER);
     expect("keep on nothing", vulcedar_keep(plan, sizeof plan, VULCEDAR_START, 0, VULCEDAR_HAPPENS, NULL, 0, NULL, 0, &count), VULCEDAR_BAD_BUFFER);
     expect("keep in no journal", vulcedar_keep(plan, sizeof plan, VULCEDAR_START, 0, VULCEDAR_HAPPENS, state, 1, NULL, 0, &count), VULCEDAR_BAD_BUFFER);
@@ -539,6 +542,74 @@ static void desk_lengths(void)
     for (uint32_t i = 0; i < sizeof early / sizeof early[0]; i++) expect("2 to 5 before 22", vulcedar_desk_check(early[i], sizeof early[i]), VULCEDAR_BAD_KIND + i);
 }
 
+/* A contingency: an xor of two tasks, else a task. What is lent where one answer is changed, and what was there before. */
+static const uint8_t staged[] = { VULCEDAR_CONTINGENCY, VULCEDAR_NO_PARENT, VULCEDAR_XOR, 0, VULCEDAR_TASK, 1, VULCEDAR_TASK, 1, VULCEDAR_TASK, 0 };
+static struct { uint8_t answers[5], marks[5]; } stage;
+
+/* A change, and whether it left the answers, and where it was refused the marks too. */
+static uint32_t change(uint32_t task, uint32_t to)
+{
+    uint8_t answers[5], marks[5];
+    memcpy(answers, stage.answers, 5);
+    memcpy(marks, stage.marks, 5);
+    uint32_t r = vulcedar_impact(staged, sizeof staged, stage.answers, 5, stage.marks, 5, task, to);
+    expect("the answers are left", memcmp(answers, stage.answers, 5) == 0, 1);
+    if (r != VULCEDAR_PASSED) expect("refused marks are left", memcmp(marks, stage.marks, 5) == 0, 1);
+    return r;
+}
+
+static void set_stage(const uint8_t answers[5])
+{
+    memcpy(stage.answers, answers, 5);
+    expect("the pass", vulcedar_pass(staged, sizeof staged, stage.answers, 5, stage.marks, 5), VULCEDAR_PASSED);
+}
+
+/* One answer changed and stored, until all have failed; then back again. After each the marks are the pass's. */
+static void changed(void)
+{
+    static const uint8_t first[] = { 0, 1, 1, 1, 99 }, none[] = { 0, 0, 2, 2, 1 };
+    static const uint8_t turned[] = { 3, 3, 3, 4, 0 }, other[] = { 3, 4, 4, 4, 3 }, ended[] = { 4, 4, 4, 4, 4 };
+    set_stage(first);
+    expect("the other wording fails", change(3, 2), VULCEDAR_PASSED);
+    expect("its marks", memcmp(stage.marks, turned, 5) == 0, 1);
+    expect("marks of a change that is not stored", change(3, 2), VULCEDAR_BAD_MARKS);
+    stage.answers[3] = 2;
+    expect("stored", change(3, 2), VULCEDAR_PASSED);
+    expect("back", change(3, 1), VULCEDAR_PASSED);
+    stage.answers[3] = 1;
+    expect("a byte for a task that is not reached", change(4, 255), VULCEDAR_PASSED);
+    set_stage(none);
+    expect("marks of another child", memcmp(stage.marks, other, 5) == 0, 1);
+    expect("all fail", change(4, 2), VULCEDAR_PASSED);
+    expect("marks of none", memcmp(stage.marks, ended, 5) == 0, 1);
+}
+
+/* The numbers of a change, each before the next. */
+static void unchanged(void)
+{
+    static const uint8_t right[] = { 0, 1, 1, 1, 2 }, bad_answer[] = { 0, 1, 3, 1, 2 }, bad_pick[] = { 0, 3, 1, 1, 2 };
+    set_stage(right);
+    stage.marks[4] ^= 1;
+    expect("no such node", change(5, 1), VULCEDAR_NOT_IN_PLAN);
+    expect("no such node above 255", change(256 + 2, 1), VULCEDAR_NOT_IN_PLAN);
+    expect("no task", change(1, 256), VULCEDAR_NOT_APPLICABLE);
+    expect("no answer", change(3, 0), VULCEDAR_BAD_ANSWER);
+    expect("no byte", change(2, 256 + 2), VULCEDAR_BAD_ANSWER);
+    expect("no byte, where it is not reached", change(4, 256), VULCEDAR_BAD_ANSWER);
+    expect("the picked one", change(2, 2), VULCEDAR_BAD_PICK);
+    expect("other marks", change(3, 2), VULCEDAR_BAD_MARKS);
+    expect("other marks with the same answer", change(3, 1), VULCEDAR_BAD_MARKS);
+    memcpy(stage.answers, bad_answer, 5);
+    expect("an answer that was there", change(2, 1), VULCEDAR_BAD_ANSWER);
+    memcpy(stage.answers, bad_pick, 5);
+    expect("a pick that was there, before no byte", change(2, 256), VULCEDAR_BAD_PICK);
+    for (size_t length = 0; length < 8; length++) {
+        uint8_t bytes[8] = { 0 };
+        expect("answers' length", vulcedar_impact(staged, sizeof staged, bytes, length, stage.marks, 5, 9, 256) == VULCEDAR_BAD_BUFFER, length != 5);
+        expect("marks' length", vulcedar_impact(staged, sizeof staged, stage.answers, 5, bytes, length, 9, 256) == VULCEDAR_BAD_BUFFER, length != 5);
+    }
+}
+
 /* Task 1, then task 2: site 2 is told that 1 committed, which it did not, and the block commits without it. */
 static void false_message(void)
 {
@@ -583,7 +654,9 @@ int main(void)
     desks();
     unused_desks();
     desk_lengths();
+    changed();
+    unchanged();
     false_message();
-    if (wrong == 0) printf("header: nulls, parts of results, a journal, its points, tables, desks, the version and a false message are as it says\n");
+    if (wrong == 0) printf("header: nulls, parts of results, a journal, its points, tables, desks, a changed answer, the version and a false message are as it says\n");
     return wrong == 0 ? 0 : 1;
 }

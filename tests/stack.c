@@ -1,7 +1,7 @@
 /*
  * How much stack a call takes: every exported function is called on a painted stack of its own, for plans of 160 nodes as
- * deep and as wide as they may be, and for every event of them, refused and passed; with desks, three nodes share one. Prints
- * the deepest of each function; fails if one is above what the header says. Symbols must be bound beforehand (-Wl,-z,now): the
+ * deep and as wide as they may be, and for every event of them, refused and passed; with desks, three nodes share one. An answer
+ * is changed for every node. Prints the deepest of each function; fails if one is above what the header says. Symbols must be bound beforehand (-Wl,-z,now): the
  * loader's own stack is not the library's.
  */
 #define _GNU_SOURCE
@@ -16,6 +16,7 @@ enum { NODES = VULCEDAR_NODES_MOST };
 #define PAINT 0xa5a5a5a5a5a5a5a5u
 
 static uint8_t plan[2 * NODES], row[NODES], marks[NODES], notes[NODES], classes[NODES], answers[NODES], out[2 * NODES];
+static uint8_t passed[NODES]; /* the marks of the pass over the answers */
 static uint8_t with_desks[3 * NODES], desk_state[NODES * NODES]; /* the same plan with desks */
 static size_t desk_len; /* of that state */
 static uint8_t state[NODES * NODES], buf[VULCEDAR_GUARD_MOST], text[VULCEDAR_TEXT_MOST], printed[VULCEDAR_PRINTED_MOST];
@@ -37,6 +38,7 @@ static void rule(void) { answer = vulcedar_rule(plan, 2 * nodes, code, node); }
 static void step(void) { answer = vulcedar_step(plan, 2 * nodes, code, node, row, nodes); }
 static void hear(void) { answer = vulcedar_hear(plan, 2 * nodes, code, node, row, nodes); }
 static void pass(void) { answer = vulcedar_pass(plan, 2 * nodes, answers, nodes, marks, nodes); }
+static void impact(void) { answer = vulcedar_impact(plan, 2 * nodes, answers, nodes, passed, nodes, node, code); }
 static void happen(void) { answer = vulcedar_simulate(plan, 2 * nodes, code, node, VULCEDAR_HAPPENS, state, nodes * nodes); }
 static void tell(void) { answer = vulcedar_simulate(plan, 2 * nodes, code, node, 0, state, nodes * nodes); }
 static void keep_event(void) { answer = vulcedar_keep(plan, 2 * nodes, code, node, VULCEDAR_HAPPENS, state, nodes * nodes, kept, 1, &fresh); }
@@ -69,7 +71,7 @@ static void rehearse(void) { answer = vulcedar_rehearse(text, text_len, printed,
 static struct call { const char *name; void (*run)(void); int events; size_t most; } calls[] = {
     { "check", check, 0, 0 }, { "rewrite", rewrite, 0, 0 }, { "check_depths", check_depths, 0, 0 },
     { "guard", guard, 1, 0 }, { "guard (short buffer)", short_guard, 1, 0 }, { "rule", rule, 1, 0 }, { "step", step, 1, 0 },
-    { "hear", hear, 1, 0 }, { "pass", pass, 0, 0 }, { "simulate (event)", happen, 1, 0 }, { "simulate (message)", tell, 1, 0 },
+    { "hear", hear, 1, 0 }, { "pass", pass, 0, 0 }, { "impact", impact, 1, 0 }, { "simulate (event)", happen, 1, 0 }, { "simulate (message)", tell, 1, 0 },
     { "keep (event)", keep_event, 1, 0 }, { "keep (message)", keep_message, 1, 0 },
     { "undo (event)", undo_event, 1, 0 }, { "undo (message)", undo_message, 1, 0 },
     { "point_name", point_name, 0, 0 }, { "point_undo", point_undo, 1, 0 }, { "point_back", point_back, 1, 0 },
@@ -118,6 +120,8 @@ static void lend(enum heard heard)
     memset(marks, heard == NOTHING ? 0 : VULCEDAR_COMMITTED, nodes);
     memset(notes, 0, nodes);
     memset(answers, heard == NOTHING ? 1 : 2, nodes);
+    for (uint32_t v = 0; heard != NOTHING && v < nodes; v++) if (plan[2 * v] == VULCEDAR_XOR) answers[v] = 0; /* none offers */
+    if (vulcedar_pass(plan, 2 * nodes, answers, nodes, passed, nodes) != VULCEDAR_PASSED) printf("stack: a pass is refused\n"), exit(1);
     fresh = 0;
     one = 1;
     event[0] = (vulcedar_entry){ (uint8_t)code, (uint8_t)node, VULCEDAR_HAPPENS, 1 };

@@ -17,6 +17,27 @@ use Rattle.pass.specs.Pass.{numberOf, rootMark, passOf, pass, passResult
 use Rattle.pass.specs.Values.{outcomeOf, Ready, Settles}
 use Rattle.pass.proofs.StateLaws.{worked-or-broke, end-fault}
 
+-- a pass that is not refused before it begins
+module _ (p a m : List ℕ) where
+  pub fits-ready : passNumber p a m ≡ 0 → Ready p a m 0
+  unfolding passNumber
+  fits-ready h =
+      let f = fit-exact p _ .none .0 h in
+      record {
+        accepted = f .0;
+        answers = eqb-true (length a) (size p) (and-left _ _ (f .1));
+        marks = eqb-true (length m) (size p) (and-right (eqb (length a) (size p)) _ (f .1));
+        node = f .0 .some;
+      }
+
+  pub ready-fits : Ready p a m 0 → passNumber p a m ≡ 0
+  unfolding passNumber
+  ready-fits r = fit-exact p _ .none .1 (r .accepted, and-join _ _ (eq-eqb (length a) (size p) (r .answers)) (eq-eqb (length m) (size p) (r .marks)))
+
+  pub ready-into : Ready p a m 0 → passInto p a m ≡ cond (not (eqb (pass p a .number) 0)) (passResult (pass p a .number) m) (pass p a)
+  unfolding passInto
+  ready-into r = rw (ready-fits r)
+
 -- k is what `fit` answered, n the node count
 module _ (p a m : List ℕ) (k n : ℕ) (count : n ≡ size p) (told : k ≡ fitNumber p (eqb (length a) n && eqb (length m) n)) where
   pub into-refused : (k ≡ 0 → ⊥) → passInto p a m ≡ passResult k m
@@ -24,14 +45,8 @@ module _ (p a m : List ℕ) (k n : ℕ) (count : n ≡ size p) (told : k ≡ fit
   into-refused h = rw (← count, ← told, ne-eqb k 0 h)
 
   pub into-ready : k ≡ 0 → Ready p a m 0
-  into-ready none =
-      let f = fit-exact p _ .none .0 (sym told ∙ none) in
-      record {
-        accepted = f .0;
-        answers = eqb-true (length a) n (and-left _ _ (f .1)) ∙ count;
-        marks = eqb-true (length m) n (and-right (eqb (length a) n) _ (f .1)) ∙ count;
-        node = f .0 .some;
-      }
+  unfolding passNumber
+  into-ready none = fits-ready p a m (rw (← count) (sym told ∙ none))
 
 -- the buffer's front, which begins as zeros, and with y in its place
 abbrev blank : ℕ → List ℕ
@@ -79,24 +94,18 @@ module _ {p a m : List ℕ} {n : ℕ} {y : List ℕ} {o : ℕ} (root : Root p a 
   pub front-fits : length (front n y) ≤ length m
   front-fits = omega (arith, front-length, root .size-is, root .ready .marks)
 
-  into-pass : passInto p a m ≡ cond (not (eqb (pass p a .number) 0)) (passResult (pass p a .number) m) (pass p a)
-  unfolding passInto passNumber
-  into-pass =
-      let r = root .ready in
-      rw (fit-exact p _ .none .1 (r .accepted, and-join _ _ (eq-eqb (length a) (size p) (r .answers)) (eq-eqb (length m) (size p) (r .marks))))
-
   pass-is : pass p a ≡ passResult (numberOf (outcomeOf o)) (set y 0 (rootMark (outcomeOf o)))
   unfolding pass passOf
   pass-is = rw (← fresh-zeros 160 n (size p) (root .size-is) (root .ready .accepted .few), root .settled .by (size p) (omega arith))
 
   pub into-fault : 4 < o → passInto p a m ≡ passResult o m
-  into-fault h = into-pass ∙ rw (pass-is, root-fault o h, ne-eqb o 0 (λ e. omega arith))
+  into-fault h = ready-into p a m (root .ready) ∙ rw (pass-is, root-fault o h, ne-eqb o 0 (λ e. omega arith))
 
   -- s is m with the front copied over it
   pub into-marks : o ≤ 4 → (s : List ℕ) → s ≡ take (length (front n y)) (front n y) ++ drop (length (front n y)) m → passInto p a m ≡ passResult 0 (set s 0 o)
   into-marks h s f =
       let r = root-works o (root .settled .least) h in
-      into-pass ∙ rw (pass-is, r .0, r .1, same)
+      ready-into p a m (root .ready) ∙ rw (pass-is, r .0, r .1, same)
     where
       over : drop (length y) m ≡ []
       over = drop-of-length-le m {i = length y} (omega (arith, fills, root .size-is, root .ready .marks))

@@ -1,5 +1,5 @@
-// The single pass: settles every node that it reaches by the answers given. What a node comes to is specs/Pass.antt. No public function
-// has a `requires`; a refused pass leaves the marks.
+// The single pass: settles every node that it reaches by the answers given. What a node comes to is specs/Pass.antt. `pass` has no
+// `requires`; a refused pass leaves the marks.
 //
 // How a node ended is a byte: 3 it works, 4 it breaks, above 4 the number of its fault. What a block comes to by the children that it
 // has settled, its state, is a byte too: 3, 4, or 5 where children of an xor offer and the picked one is not among them.
@@ -186,8 +186,8 @@ fn settle_root(plan: &[u8], answers: &[u8], marks: &mut [u8]) -> u8
     settle(plan, answers, &first, &next, marks, 0)
 }
 
-// The pass over an accepted plan, with one answer and one mark a node.
-fn settle_all(plan: &[u8], answers: &[u8], marks: &mut [u8]) -> u8
+// The pass over an accepted plan, with one answer and one mark a node, for a caller that has tested them.
+pub fn settle_all(plan: &[u8], answers: &[u8], marks: &mut [u8]) -> u8
     requires { ⌜ Ready (now plan) (now answers) (now marks) 0 ⌝ }
     ensures { λ r. ⌜ passInto (now (plan .entry)) (now (answers .entry)) (now (marks .entry)) ≡ passResult r (now (marks .exit)) ⌝ }
 {

@@ -1,6 +1,6 @@
 -- The call: its number is 0 just where O6 says, which number it has otherwise, and what it leaves. Assumes nothing.
 use mathlib.Core.Path.{_≡_, refl, sym, _∙_, ap, subst}
-use mathlib.Core.Bool.{Bool, true, false, cond, not, _&&_}
+use mathlib.Core.Bool.{Bool, true, false, cond, not}
 use mathlib.Core.List.{List}
 use mathlib.Core.Logic.{_⊎_, inl, inr}
 use Prim.Native.Nat.{ℕ, _<_, _≤_}
@@ -9,13 +9,14 @@ use lib.ListN.{length, getD, set, length-set}
 use lib.Seq.{ext-getD, getD-set-other, set-set, set-getD}
 use borrow.Author.Tests.{eqb-true, eqb-false, eq-eqb, ne-eqb, ltb-true, lt-ltb, le-ltb, leb-true, le-leb, lt-leb}
 use native.Mathlib.Omega.{arith}
-use Rattle.lists.proofs.Logic.{cases, decided, and-left, and-right, and-join, test-passed, number-passed, no-bool}
+use Rattle.lists.proofs.Logic.{cases, decided, test-passed, number-passed, no-bool}
 use Rattle.lists.proofs.Below.{below-at, below-by}
 use Rattle.plan.specs.Plan.{task, isKind, kindNumber, size, kind}
 use Rattle.plan.specs.Check.{Accepted}
 use Rattle.plan.proofs.KindLaws.{same-kind}
-use Rattle.plan.proofs.Main.{fit-exact}
 use Rattle.pass.specs.Pass.{passResult, pass, passNumber, passInto}
+use Rattle.pass.specs.Values.{Ready}
+use Rattle.pass.proofs.PassLaws.{fits-ready, ready-fits, ready-into}
 use Rattle.pass_nodes.specs.Nodes.{markAt, Read}
 use Rattle.pass_nodes.proofs.NodeLaws.{marks-length}
 use Rattle.pass_nodes.proofs.Main.{unread-free}
@@ -26,37 +27,22 @@ use Rattle.reach.proofs.ReachLaws.{one-set, one-reaches}
 
 -- a pass into m that leaves n: the plan and the lengths are right, the answers are accepted, and n are its marks
 pub record Taken (p a m n : List ℕ) : Type 0 where
-  pub accepted : Accepted p
-  pub answers : length a ≡ size p
-  pub marks : length m ≡ size p
+  pub ready : Ready p a m 0
   pub number : pass p a .number ≡ 0
   pub left : n ≡ pass p a .marks
 
 module _ (p a m : List ℕ) where
-  fits-taken : passNumber p a m ≡ 0 → Accepted p × (length a ≡ size p) × (length m ≡ size p)
-  unfolding passNumber
-  fits-taken h =
-      let f = fit-exact p (eqb (length a) (size p) && eqb (length m) (size p)) .none .0 h in
-      (f .0, eqb-true (length a) (size p) (and-left _ _ (f .1)), eqb-true (length m) (size p) (and-right (eqb (length a) (size p)) _ (f .1)))
-
-  pub taken-fits : Accepted p → length a ≡ size p → length m ≡ size p → passNumber p a m ≡ 0
-  unfolding passNumber
-  taken-fits ok la lm = fit-exact p (eqb (length a) (size p) && eqb (length m) (size p)) .none .1
-      (ok, and-join _ _ (eq-eqb (length a) (size p) la) (eq-eqb (length m) (size p) lm))
-
   pub taken : (n : List ℕ) → passInto p a m ≡ passResult 0 n → Taken p a m n
   unfolding passInto
   taken n h = cases (decided (eqb (passNumber p a m) 0))
-      (λ f. let g = fits-taken (eqb-true _ _ f) in
-      let k : cond (not (eqb (pass p a .number) 0)) (passResult (pass p a .number) m) (pass p a) ≡ passResult 0 n = rw f at h in
+      (λ f. let k : cond (not (eqb (pass p a .number) 0)) (passResult (pass p a .number) m) (pass p a) ≡ passResult 0 n = rw f at h in
       cases (decided (eqb (pass p a .number) 0))
-      (λ e. record { accepted = g .0; answers = g .1; marks = g .2; number = eqb-true _ _ e; left = sym (ap (λ r. r .marks) (rw e at k)) })
+      (λ e. record { ready = fits-ready p a m (eqb-true _ _ f); number = eqb-true _ _ e; left = sym (ap (λ r. r .marks) (rw e at k)) })
       (λ e. absurd (eqb-false (pass p a .number) 0 e (ap (λ r. r .number) (rw e at k)))))
       (λ f. absurd (eqb-false (passNumber p a m) 0 f (ap (λ r. r .number) (rw f at h))))
 
   pub takes : (n : List ℕ) → Taken p a m n → passInto p a m ≡ passResult 0 n
-  unfolding passInto
-  takes n t = rw (taken-fits (t .accepted) (t .answers) (t .marks), t .number) (ap (passResult 0) (sym (t .left)))
+  takes n t = ready-into p a m (t .ready) ∙ rw (t .number) (ap (passResult 0) (sym (t .left)))
 
 -- m are the pass's marks, byte by byte
 module _ (p a m : List ℕ) (long : length m ≡ size p) (z : Accepted p) (ok : pass p a .number ≡ 0) where
@@ -71,8 +57,7 @@ are-marks p a m e = below-by (λ v. eqb (getD m v 0) (getD (pass p a .marks) v 0
 
 -- what O6 asks for
 pub record Meets (p a m : List ℕ) (t x : ℕ) : Type 0 where
-  pub accepted : Accepted p
-  pub answers : length a ≡ size p
+  pub ready : Ready p a m 0
   pub node : t < size p
   pub is-task : kind p t ≡ task
   pub old : pass p a .number ≡ 0
@@ -85,7 +70,7 @@ module _ (p a m : List ℕ) (t x : ℕ) where
   unfolding impactNumber changeNumber newNumber
   meets h =
       let s = number-passed (passNumber p a m) _ h in
-      let f = fits-taken p a m (s .0) in
+      let r = fits-ready p a m (s .0) in
       let s2 = test-passed (ltb t (size p)) 7 _ (s .1) in
       let s3 = test-passed (isKind task (kind p t)) 8 _ (s2 .1) in
       let s4 = number-passed (pass p a .number) _ (s3 .1) in
@@ -93,27 +78,23 @@ module _ (p a m : List ℕ) (t x : ℕ) where
       let s6 = test-passed (areMarks p a m) 27 0 (s5 .1) in
       let b = byte (leb x 255) refl (s5 .0) in
       record {
-        accepted = f .0;
-        answers = f .1;
+        ready = r;
         node = ltb-true t (size p) (s2 .0);
         is-task = same-kind task (kind p t) (s3 .0);
         old = s4 .0;
         byte = leb-true x 255 (b .0);
         new = b .1;
-        marks = marks-are p a m (f .2) (f .0) (s4 .0) (s6 .0);
+        marks = marks-are p a m (r .marks) (r .accepted) (s4 .0) (s6 .0);
       }
     where
       byte : (b : Bool) → leb x 255 ≡ b → cond b (pass p (set a t x) .number) 13 ≡ 0 → (leb x 255 ≡ true) × (pass p (set a t x) .number ≡ 0)
       byte true e h = (e, h)
       byte false e h = absurd (omega arith)
 
-  long : Meets p a m t x → length m ≡ size p
-  long h = ap length (h .marks) ∙ marks-length p (h .accepted) a (h .old)
-
   pub met : Meets p a m t x → impactNumber p a m t x ≡ 0
   unfolding impactNumber changeNumber newNumber isKind kindNumber
   met h = rw (
-    taken-fits p a m (h .accepted) (h .answers) (long h),
+    ready-fits p a m (h .ready),
     lt-ltb t (size p) (h .node),
     h .is-task,
     h .old,
@@ -136,11 +117,12 @@ module _ (p a m : List ℕ) (t x : ℕ) where
     pub one-task : OneTask p a (set a t x) t
     one-task = one-set p a t x (h .node) (h .is-task) (h .old) (h .new)
 
+    new-ready : (n : List ℕ) → length n ≡ size p → Ready p (set a t x) n 0
+    new-ready n l = record { accepted = h .ready .accepted; answers = length-set a t x ∙ h .ready .answers; marks = l; node = h .ready .node }
+
     old-taken : Taken p a m m
     old-taken = record {
-      accepted = h .accepted;
-      answers = h .answers;
-      marks = long h;
+      ready = h .ready;
       number = h .old;
       left = h .marks;
     }
@@ -150,8 +132,7 @@ module _ (p a m : List ℕ) (t x : ℕ) where
 
     back : (n : List ℕ) → n ≡ pass p (set a t x) .marks → getD a t 0 ≤ 255 → Meets p (set a t x) n t (getD a t 0)
     back n e b = record {
-      accepted = h .accepted;
-      answers = length-set a t x ∙ h .answers;
+      ready = new-ready n (ap length e ∙ marks-length p (h .ready .accepted) (set a t x) (h .new));
       node = h .node;
       is-task = h .is-task;
       old = h .new;
@@ -168,20 +149,20 @@ impact-right p a m t x n q =
       old = takes p a m m (old-taken p a m t x h);
       byte = h .byte;
       one-task = one-task p a m t x h;
-      new = λ b l. takes p (set a t x) b n (record { accepted = h .accepted; answers = length-set a t x ∙ h .answers; marks = l; number = h .new; left = r .1 });
+      new = λ b l. takes p (set a t x) b n (record { ready = new-ready p a m t x h b l; number = h .new; left = r .1 });
       reach = λ w s. go h (r .1) w s;
       back = λ b. passes p (set a t x) n t (getD a t 0) (back p a m t x h n (r .1) b)
           ∙ ap (passResult 0) (ap (λ c. pass p c .marks) (set-back p a m t x h) ∙ sym (h .marks));
     }
   where
     go : Meets p a m t x → n ≡ pass p (set a t x) .marks → (w : ℕ) → w < size p → (getD n w 0 ≡ getD m w 0) ⊎ InReach p t w
-    go h e w s = unfold markAt in cases (one-reaches p (h .accepted) a (set a t x) t (one-task p a m t x h) .reach w s)
+    go h e w s = unfold markAt in cases (one-reaches p (h .ready .accepted) a (set a t x) t (one-task p a m t x h) .reach w s)
         (λ k. inl (ap (λ r. getD r w 0) e ∙ sym k ∙ sym (ap (λ r. getD r w 0) (h .marks)))) (λ k. inr k)
 
 pub impact-passes : ImpactPasses
-impact-passes p ok a m t x old byte one =
+impact-passes p a m t x old byte one =
     let k = taken p a m m old in
-    passes p a m t x (record { accepted = ok; answers = k .answers; node = one .within; is-task = one .is-task; old = one .first; byte = byte; new = one .second; marks = k .left })
+    passes p a m t x (record { ready = k .ready; node = one .within; is-task = one .is-task; old = one .first; byte = byte; new = one .second; marks = k .left })
 
 module _ (p a m : List ℕ) (t x : ℕ) where
   -- behind 9, the number is the change's
@@ -208,8 +189,8 @@ module _ (p a m : List ℕ) (t x : ℕ) where
   change-marks : passNumber p a m ≡ 0 → OneTask p a (set a t x) t → x ≤ 255 → (m ≡ pass p a .marks → ⊥) → changeNumber p a m t x ≡ 28
   unfolding changeNumber newNumber
   change-marks z o l n =
-      let f = fits-taken p a m z in
-      rw (o .first, le-leb x 255 l, o .second, no-bool (areMarks p a m) (λ e. n (marks-are p a m (f .2) (f .0) (o .first) e)))
+      let r = fits-ready p a m z in
+      rw (o .first, le-leb x 255 l, o .second, no-bool (areMarks p a m) (λ e. n (marks-are p a m (r .marks) (r .accepted) (o .first) e)))
 
   numbers : Numbers p a m t x
   unfolding impactNumber impactInto
@@ -230,8 +211,8 @@ impact-numbers = numbers
 pub impact-unread : ImpactUnread
 impact-unread p a m t x l k old off byte =
     let h = taken p a m m old in
-    let free = unread-free p (h .accepted) a (set a t x) (h .number) read in
-    impact-passes p (h .accepted) a m t x old byte (one-set p a t x l k (h .number) (free .0))
+    let free = unread-free p (h .ready .accepted) a (set a t x) (h .number) read in
+    impact-passes p a m t x old byte (one-set p a t x l k (h .number) (free .0))
     ∙ ap (passResult 0) (same-marks h free ∙ sym (h .left))
   where
     read : (v : ℕ) → v < size p → Read p a v → getD a v 0 ≡ getD (set a t x) v 0
@@ -240,13 +221,13 @@ impact-unread p a m t x l k old off byte =
     same-marks : Taken p a m m → (pass p (set a t x) .number ≡ 0) × ((v : ℕ) → v < size p → markAt p (set a t x) v ≡ markAt p a v) →
         pass p (set a t x) .marks ≡ pass p a .marks
     same-marks h f = unfold markAt in
-        let long = marks-length p (h .accepted) (set a t x) (f .0) in
-        ext-getD 0 (pass p (set a t x) .marks) (pass p a .marks) (long ∙ sym (marks-length p (h .accepted) a (h .number))) (λ v s. f .1 v (omega arith))
+        let long = marks-length p (h .ready .accepted) (set a t x) (f .0) in
+        ext-getD 0 (pass p (set a t x) .marks) (pass p a .marks) (long ∙ sym (marks-length p (h .ready .accepted) a (h .number))) (λ v s. f .1 v (omega arith))
 
 pub impact-none : ImpactNone
 impact-none p a m t l k b = (
   λ q. let h = passed p a m t (getD a t 0) m q .0 in takes p a m m (old-taken p a m t (getD a t 0) h),
   λ q. let h = taken p a m m q in
-      passes p a m t (getD a t 0) (record { accepted = h .accepted; answers = h .answers; node = l; is-task = k; old = h .number; byte = b; new = ap (λ c. pass p c .number) (set-getD a t 0) ∙ h .number; marks = h .left })
+      passes p a m t (getD a t 0) (record { ready = h .ready; node = l; is-task = k; old = h .number; byte = b; new = ap (λ c. pass p c .number) (set-getD a t 0) ∙ h .number; marks = h .left })
       ∙ ap (passResult 0) (ap (λ c. pass p c .marks) (set-getD a t 0) ∙ sym (h .left)),
 )

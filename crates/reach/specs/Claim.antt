@@ -52,7 +52,7 @@ ImpactRight = (p a m : List ℕ) (t x : ℕ) (n : List ℕ) → impactInto p a m
 
 -- O6, O7: where what `Changed` asks is there, the call passes
 abbrev pub ImpactPasses : Type 0
-ImpactPasses = (p : List ℕ) → Accepted p → (a m : List ℕ) (t x : ℕ) → passInto p a m ≡ passResult 0 m → x ≤ 255 → OneTask p a (set a t x) t →
+ImpactPasses = (p a m : List ℕ) (t x : ℕ) → passInto p a m ≡ passResult 0 m → x ≤ 255 → OneTask p a (set a t x) t →
     impactInto p a m t x ≡ passResult 0 (pass p (set a t x) .marks)
 
 -- O6: the plan, the lengths and the task are right

@@ -5,7 +5,7 @@ use mathlib.Core.List.{List, _++_}
 use Prim.Native.Nat.{ℕ, _<_}
 use borrow.Author.Tests.{ne-eqb, lt-ltb}
 use lib.Dec.{eqb, leb, ltb}
-use lib.ListN.{length, drop}
+use lib.ListN.{length, drop, set}
 use Rattle.lists.specs.Seq.{table}
 use Rattle.plan.specs.Plan.{size, depth}
 use Rattle.event.specs.Event.{eventOf}
@@ -28,6 +28,7 @@ use Rattle.central.specs.Central.{allowed}
 use Rattle.central.specs.Rule.{Ruled, ruled, rulingNumber, stateOf, ruleInvalid, marksAfter, notesAfter, ruleOn, ruleOf}
 use Rattle.central.specs.declared.Ruling.the-variants as ruling
 use Rattle.pass.specs.Pass.{PassResult, passResult, pass, passNumber, passInto}
+use Rattle.reach.specs.Impact.{impactNumber, impactInto}
 use Rattle.retention.specs.Record.{recordOf, Recorded, recorded, recordedAs}
 use Rattle.pass_record.specs.PassRecord.{passRecordNumber, passRecordInto}
 use Rattle.job.specs.Simulation.{stepFrom, replayFrom, numbersFrom, endMarks}
@@ -111,6 +112,12 @@ pass-leaves p a m =
     let y = passResult (pass p a .number) m in
     refusal (λ (r : PassResult). r .number) (λ r. r .marks ≡ m) (passNumber p a m) x (cond (not (eqb (pass p a .number) 0)) y (pass p a)) refl
     (λ e. tested (λ (r : PassResult). r .number) (λ r. r .marks ≡ m) (pass p a .number) y (pass p a) refl (λ z. z))
+
+pub impact-leaves : (p a m : List ℕ) (t x : ℕ) → (impactInto p a m t x .number ≡ 0 → ⊥) → impactInto p a m t x .marks ≡ m
+unfolding impactInto
+impact-leaves p a m t x =
+    let n = impactNumber p a m t x in
+    tested (λ (r : PassResult). r .number) (λ r. r .marks ≡ m) n (passResult n m) (passResult 0 (pass p (set a t x) .marks)) refl (λ e. refl)
 
 -- a record, and a list of steps
 module _ (m c : List ℕ) where

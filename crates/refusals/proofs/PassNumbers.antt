@@ -1,10 +1,10 @@
 -- The pass's own numbers are 0, 13 and 14: a fault is a node's own, before or after its children, or one of theirs. Assumes nothing.
 use mathlib.Core.Path.{_≡_, refl}
-use mathlib.Core.Bool.{Bool, true, false, cond, _&&_}
+use mathlib.Core.Bool.{Bool, true, false, cond, _&&_, not}
 use mathlib.Core.List.{List, [], _∷_}
 use Prim.Native.Nat.{ℕ, zero, suc}
 use native.Mathlib.Omega.{arith}
-use borrow.Author.Tests.{ltb-true}
+use borrow.Author.Tests.{ltb-true, eqb-false, not-true}
 use lib.Dec.{eqb, ltb}
 use lib.ListN.{getD}
 use Rattle.lists.proofs.Logic.{and-left, and-right}
@@ -16,9 +16,9 @@ use Rattle.refusals.proofs.ChoiceLaws.{choice}
 pub none-later : Later 0
 none-later l = absurd (omega arith)
 
--- 8 to 21
-pub later : (n : ℕ) → (ltb 7 n && ltb n 22) ≡ true → Later n
-later n h l = let b = ltb-true n 22 (and-right (ltb 7 n) _ h) in (ltb-true 7 n (and-left _ _ h), λ e. absurd (omega arith))
+-- above 7, and not 22
+pub later : (n : ℕ) → (ltb 7 n && not (eqb n 22)) ≡ true → Later n
+later n h l = (ltb-true 7 n (and-left _ _ h), eqb-false n 22 (not-true _ (and-right (ltb 7 n) _ h)))
 
 answer-later : (k : Kind) (a : ℕ) → Later (badAnswer k a)
 unfolding badAnswer

@@ -4,11 +4,11 @@ use mathlib.Core.Bool.{Bool, true, cond, not, _&&_}
 use mathlib.Core.List.{List}
 use Prim.Native.Nat.{ℕ, _*_, _/_, _%_, _≤_}
 use borrow.Author.Tests.{eq-eqb, eqb-true, le-leb}
-use lib.Dec.{eqb}
-use lib.ListN.{length}
+use lib.Dec.{eqb, ltb, leb}
+use lib.ListN.{length, set}
 use Rattle.lists.specs.Seq.{allBelow}
 use Rattle.lists.proofs.Logic.{cases, decided, and-join}
-use Rattle.plan.specs.Plan.{size}
+use Rattle.plan.specs.Plan.{task, kind, size, isKind}
 use Rattle.plan.specs.Check.{Accepted, fitNumber}
 use Rattle.plan.proofs.Main.{fit-exact}
 use Rattle.event.specs.Event.{eventOf, known, applies}
@@ -31,6 +31,7 @@ use Rattle.central.specs.Central.{allowed}
 use Rattle.central.specs.Rule.{Ruled, ruled, rulingNumber, rightSize, stateOf, ruleInvalid, marksAfter, notesAfter, ruleOn, ruleOf}
 use Rattle.central.specs.declared.Ruling.the-variants as ruling
 use Rattle.pass.specs.Pass.{PassResult, passResult, pass, passNumber, passInto}
+use Rattle.reach.specs.Impact.{areMarks, newNumber, changeNumber, impactNumber, impactInto}
 use Rattle.retention.specs.Record.{commonTable, frameOk, tableOk, tableNumber, Record, recordOf, Recorded, recorded, recordedAs}
 use Rattle.pass_record.specs.PassRecord.{lentNumber, passRecordNumber, passRecordInto}
 use Rattle.job.specs.Simulation.{stateFits}
@@ -120,6 +121,28 @@ module _ (p : List ℕ) (ok : Accepted p) where
   pass-passes a m la lm =
       rw (fit (eqb (length a) (size p) && eqb (length m) (size p)) (and-join _ _ (one a la) (one m lm)))
       (choice (λ (r : PassResult). Later (r .number)) (not (eqb (pass p a .number) 0)) (passResult (pass p a .number) m) (pass p a) (λ e. pass-later p a) (λ e. pass-later p a))
+
+  -- 8, 9, 13, 14 and 28 are found behind 7
+  pub impact-later : (a m : List ℕ) (t x : ℕ) → length a ≡ size p → length m ≡ size p → Later (impactInto p a m t x .number)
+  unfolding impactInto impactNumber changeNumber newNumber passNumber
+  impact-later a m t x la lm =
+      let n = impactNumber p a m t x in
+      choice (λ (r : PassResult). Later (r .number)) (not (eqb n 0)) (passResult n m) (passResult 0 (pass p (set a t x) .marks)) (λ e. number) (λ e. none-later)
+    where
+      new : Later (newNumber p a t x)
+      new = unfold newNumber in choice Later (leb x 255) (pass p (set a t x) .number) 13 (λ e. pass-later p (set a t x)) (λ e. later 13 refl)
+
+      change : Later (changeNumber p a m t x)
+      change = unfold changeNumber in
+          choice Later (not (eqb (pass p a .number) 0)) (pass p a .number) _ (λ e. pass-later p a)
+          (λ e. choice Later (not (eqb (newNumber p a t x) 0)) (newNumber p a t x) _ (λ e. new)
+          (λ e. choice Later (not (areMarks p a m)) 28 0 (λ e. later 28 refl) (λ e. none-later)))
+
+      number : Later (impactNumber p a m t x)
+      number = unfold impactNumber passNumber in
+          rw (fit (eqb (length a) (size p) && eqb (length m) (size p)) (and-join _ _ (one a la) (one m lm)))
+          (choice Later (not (ltb t (size p))) 8 _ (λ e. later 8 refl)
+          (λ e. choice Later (not (isKind task (kind p t))) 9 (changeNumber p a m t x) (λ e. later 9 refl) (λ e. change)))
 
   -- a table's number, and a later one behind it
   behind-table : (tab : List ℕ) (n : ℕ) → Later n → Later (cond (not (eqb (tableNumber tab) 0)) (tableNumber tab) n)

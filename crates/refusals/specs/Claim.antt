@@ -17,6 +17,7 @@ use Rattle.site.specs.Verdict.{verdictNumber}
 use Rattle.site.specs.Step.{stepOf, hearOf}
 use Rattle.central.specs.Rule.{rulingNumber, ruleOf}
 use Rattle.pass.specs.Pass.{passInto}
+use Rattle.reach.specs.Impact.{impactInto}
 use Rattle.retention.specs.Record.{tableNumber}
 use Rattle.pass_record.specs.PassRecord.{passRecordInto}
 use Rattle.simulation.specs.Run.{simulateOf, recordInto, recordByInto, runOf}
@@ -91,6 +92,8 @@ pub record RefusalsLeave : Type 0 where
       (ruleOf p code node m k .marks ≡ m) × (ruleOf p code node m k .notes ≡ k)
   -- vulcedar_pass
   pub pass : (p a m : List ℕ) → (passInto p a m .number ≡ 0 → ⊥) → passInto p a m .marks ≡ m
+  -- vulcedar_impact
+  pub impact : (p a m : List ℕ) (t x : ℕ) → (impactInto p a m t x .number ≡ 0 → ⊥) → impactInto p a m t x .marks ≡ m
   -- vulcedar_pass_record
   pub pass-record : (p tab a m c : List ℕ) → (passRecordInto p tab a m c .number ≡ 0 → ⊥) →
       (passRecordInto p tab a m c .marks ≡ m) × (passRecordInto p tab a m c .classes ≡ c)
@@ -156,6 +159,8 @@ pub record AcceptedPass (p : List ℕ) : Type 0 where
   pub central : (code node : ℕ) (m k : List ℕ) → length m ≡ size p → length k ≡ size p → Later (ruleNumber p code node m k)
   -- vulcedar_pass
   pub pass : (a m : List ℕ) → length a ≡ size p → length m ≡ size p → Later (passInto p a m .number)
+  -- vulcedar_impact
+  pub impact : (a m : List ℕ) (t x : ℕ) → length a ≡ size p → length m ≡ size p → Later (impactInto p a m t x .number)
   -- vulcedar_pass_record
   pub pass-record : (tab a m c : List ℕ) → length a ≡ size p → length m ≡ size p → length c ≡ size p → Later (passRecordInto p tab a m c .number)
   -- vulcedar_record

@@ -14,6 +14,7 @@ ghost use Rattle.site.specs.declared.Verdict.the-variants.{Refused};
 ghost use Rattle.site.specs.Step.{stepOf, hearOf};
 ghost use Rattle.central.specs.Rule.{ruleOf};
 ghost use Rattle.pass.specs.Pass.{passInto};
+ghost use Rattle.reach.specs.Impact.{impactInto};
 ghost use Rattle.retention.specs.Record.{tableNumber};
 ghost use Rattle.pass_record.specs.PassRecord.{passRecordInto};
 ghost use Rattle.simulation.specs.Run.{simulateOf, recordByInto, recordInto};
@@ -61,7 +62,7 @@ fn of_verdict(v: site::Verdict) -> u32
 pub extern "C" fn vulcedar_version() -> u32
     ensures { λ r. ⌜ r ≡ version ⌝ }
 {
-    66304
+    66560
 }
 
 #[no_mangle]
@@ -134,6 +135,20 @@ pub extern "C" fn vulcedar_pass(plan: &[u8], answers: &[u8], marks: &mut [u8]) -
     ensures { λ r. ⌜ now (marks .exit) ≡ passInto (now (plan .entry)) (now (answers .entry)) (now (marks .entry)) .marks ⌝ }
 {
     packed(pass::pass(plan, answers, marks), 0)
+}
+
+#[no_mangle]
+pub extern "C" fn vulcedar_impact(
+    plan: &[u8],
+    answers: &[u8],
+    marks: &mut [u8],
+    task: u32,
+    answer: u32,
+) -> u32
+    ensures { λ r. ⌜ r ≡ result (impactInto (now (plan .entry)) (now (answers .entry)) (now (marks .entry)) task answer .number) 0 0 ⌝ }
+    ensures { λ r. ⌜ now (marks .exit) ≡ impactInto (now (plan .entry)) (now (answers .entry)) (now (marks .entry)) task answer .marks ⌝ }
+{
+    packed(impact::impact(plan, answers, marks, task, answer), 0)
 }
 
 #[no_mangle]

@@ -4,6 +4,7 @@
 use differential::codes::*;
 use differential::driver::{Driver, Step, Temper, Tree};
 use differential::form::{Form, Seats};
+use differential::implementation::Change;
 use differential::random::Random;
 use differential::{Implementation, Reference};
 
@@ -39,6 +40,10 @@ pub struct Fixture {
     pub notes: Vec<u8>,
     /// Answers with which every task works.
     pub answers: Vec<u8>,
+    /// The marks of the pass over them.
+    pub passed: Vec<u8>,
+    /// The tasks that the pass comes to, and of which each alone may fail.
+    pub tasks: Vec<u32>,
     /// A text as long as may be: a job of the plan, then each of the steps
     /// again and again. A plan with desks has none.
     pub text: Vec<u8>,
@@ -71,7 +76,9 @@ impl Fixture {
         let state = job(form, &plan, whole.events / 2).state;
         let (marks, notes) = seen_from_above(form, &plan, &state);
         let text = if form == Form::Plain { long_text(&plan, &whole.steps, &steps) } else { vec![] };
-        Fixture { form, nodes, events, steps, state, marks, notes, answers: vec![1; nodes], text, plan }
+        let answers = vec![1; nodes];
+        let (passed, tasks) = changeable(&form.plain(&plan), &answers);
+        Fixture { form, nodes, events, steps, state, marks, notes, answers, passed, tasks, text, plan }
     }
 }
 
@@ -129,6 +136,20 @@ fn placed_steps((code, node, own): (u32, u32, usize), seats: &Seats, nodes: usiz
         PlacedStep { step: Step { code, node, site: HAPPENS }, place: at(own) },
         PlacedStep { step: Step { code, node, site: seats.numbers()[hearer] }, place: at(hearer) },
     ]
+}
+
+/// The marks of the pass, and the tasks that it comes to and of which each alone
+/// may fail.
+fn changeable(plan: &[u8], answers: &[u8]) -> (Vec<u8>, Vec<u32>) {
+    let mut marks = vec![0; answers.len()];
+    assert_eq!(Reference.pass(plan, answers, &mut marks), 0);
+    let may_fail = |&task: &u32| {
+        let change = Change { task, answer: 2 };
+        Reference.impact(plan, &mut answers.to_vec(), &mut marks.clone(), change) == 0
+    };
+    let tasks =
+        (0..answers.len() as u32).filter(|&node| marks[node as usize] != 0).filter(may_fail).collect();
+    (marks, tasks)
 }
 
 /// A plan and steps as text, full to the last line.
@@ -195,6 +216,7 @@ mod tests {
             let result = Reference.rehearse(&fixture.text, &mut vec![0; 16_384]);
             assert_eq!(number(result), 0, "{nodes}");
             assert!(fixture.text.len() > LONGEST_TEXT - 7, "{nodes}: {}", fixture.text.len());
+            assert!(fixture.tasks.len() > nodes / 4, "{nodes}: {:?}", fixture.tasks);
         }
     }
 

@@ -4,14 +4,14 @@
 use crate::fixture::{Fixture, PlacedStep};
 use differential::Implementation;
 use differential::driver::Step;
-use differential::implementation::{Entry, Slots};
+use differential::implementation::{Change, Entry, Slots};
 use differential::slots::{Name, SLOTS};
 use differential::tables::COMMON;
 use differential::texts::OUT_BYTES;
 use std::hint::black_box;
 
 /// The measured functions.
-pub const NAMES: [&str; 29] = [
+pub const NAMES: [&str; 30] = [
     "check",
     "depths",
     "rewrite",
@@ -20,6 +20,7 @@ pub const NAMES: [&str; 29] = [
     "step",
     "hear",
     "pass",
+    "impact",
     "simulate",
     "keep",
     "undo",
@@ -139,6 +140,7 @@ impl Work {
             "check" | "depths" | "rewrite" | "pass" | "record" | "record_by" => CALLS,
             "check_table" | "pass_record" | "point_name" | "point_full" => CALLS,
             "rehearse" => 1,
+            "impact" => 2 * self.fixture.tasks.len(),
             KEY => 2 * self.fixture.plan.len(),
             "simulate" | "keep" | "undo" | "point_undo" | "point_back" => self.fixture.steps.len(),
             _ => self.fixture.events.len(),
@@ -177,6 +179,7 @@ impl Work {
                 subject.pass_record(plan, &COMMON, &fixture.answers, &mut work.out, &mut work.more)
             }),
             "rehearse" => subject.rehearse(black_box(&self.fixture.text), &mut self.lines),
+            "impact" => self.impacts(subject),
             "guard" => self.guards(subject),
             "rule" => self.rules(subject),
             "step" => self.steps(subject),
@@ -214,6 +217,21 @@ impl Work {
                 let before = std::mem::replace(&mut plan[place], typed);
                 sum = mix(sum, subject.check_depths(black_box(plan), &mut self.out));
                 plan[place] = before;
+            }
+        }
+        sum
+    }
+
+    /// Each task alone fails, and works again.
+    fn impacts(&mut self, subject: &mut impl Implementation) -> u32 {
+        let Fixture { plan, answers, passed, tasks, .. } = &mut self.fixture;
+        let mut sum = 0;
+        for &task in tasks.iter() {
+            for answer in [2, 1] {
+                let change = Change { task, answer };
+                sum = mix(sum, subject.impact(black_box(plan), answers, passed, change));
+                sum = mix(sum, passed[task as usize].into());
+                answers[task as usize] = answer as u8;
             }
         }
         sum
@@ -362,10 +380,11 @@ mod tests {
         for function in NAMES.into_iter().chain([KEY]) {
             let fixture = if takes_desks(function) { Fixture::with_desks(40) } else { Fixture::new(40) };
             let mut work = Work::new(function, &fixture);
-            let state = work.fixture.state.clone();
+            let (state, passed) = (work.fixture.state.clone(), work.fixture.passed.clone());
             let first = work.run(&mut Reference);
             assert_eq!(work.run(&mut Reference), first, "{function}");
             assert_eq!(work.fixture.state, state, "{function}");
+            assert_eq!(work.fixture.passed, passed, "{function}");
             assert_eq!(work.points.places, Points::at(&POINTS).places, "{function}");
         }
     }

@@ -4,11 +4,12 @@
 use crate::codes::*;
 use crate::driver::{Step, Tree};
 use crate::form::{Form, Kept};
-use crate::implementation::{Entry, Implementation, Reference, Slots};
+use crate::implementation::{Change, Entry, Implementation, Reference, Slots};
 use crate::tables;
 use crate::texts::{OUT_BYTES, Sound};
 
 mod desks;
+mod impact;
 mod points;
 
 /// A mistake: those the document warns of, its worthless versions, and slips
@@ -403,11 +404,69 @@ pub enum Mistake {
     DeskPlanBeforeTable,
     /// A record that is refused with 22 has already written marks.
     RefusedDesksWrite,
+    /// 28 comes before 13 and 14.
+    MarksBeforeFaults,
+    /// 28 comes before 13 and 14 of the new answers.
+    MarksBeforeNewFaults,
+    /// The new answers' 13 and 14 come before those of the answers.
+    NewAnswersFirst,
+    /// A node that is no task gets 8, and one that isn't there 9.
+    TaskNumbersSwapped,
+    /// A new answer is cut to a byte.
+    AnswerCut,
+    /// A new answer that is neither 1 nor 2 is refused where the pass doesn't
+    /// come, too.
+    UnreachedAnswerRefused,
+    /// The marks are not compared.
+    MarksNotCompared,
+    /// The marks are compared at the task alone.
+    MarksComparedAtTheTask,
+    /// The marks are compared in the task's reach alone.
+    MarksComparedInTheReach,
+    /// A change that is refused with 28 has already written marks.
+    RefusedChangeWrites,
+    /// Only the task and the blocks above it get new marks.
+    OnlyThePathChanges,
+    /// Later siblings in a contingency keep their marks.
+    ContingencyForgotten,
+    /// Later siblings in a serial keep their marks.
+    SerialForgotten,
+    /// Later siblings get new marks, and what is below them keeps its own.
+    SubtreesForgotten,
+    /// Of the blocks above the task only the parent gets a new mark.
+    StopsAtTheParent,
+    /// What isn't reached any more keeps its mark.
+    NewlyUnreachedStay,
+    /// What offers now beside the picked child gets the mark of a committed
+    /// one.
+    NewOffersCommit,
+    /// The new answer is stored too.
+    AnswerStored,
+    /// A new answer that is no byte is found before what is wrong with the
+    /// answers.
+    LargeAnswerFirst,
+    /// A new answer that is no byte is found after what is wrong with the new
+    /// answers.
+    LargeAnswerLast,
+    /// A new answer that is no byte is free where the pass doesn't come.
+    LargeAnswerFreeWhereUnreached,
+    /// The marks must be those of the new answers.
+    MarksOfTheNewAnswers,
+    /// With the answer that is there already, the marks are not compared.
+    SameAnswerUnchecked,
+    /// The answer of a block can be changed too.
+    AnyNodeChanges,
+    /// The task's number is cut to a byte.
+    TaskCut,
+    /// 8 and 9 come before a wrong length.
+    TaskBeforeLengths,
+    /// A change answers as a value how many marks are others.
+    ChangeAnswersACount,
 }
 
 impl Mistake {
     /// All mistakes; the first is number 1.
-    pub const ALL: [Mistake; 194] = [
+    pub const ALL: [Mistake; 221] = [
         Mistake::CommitUnlessAbortHeard,
         Mistake::PickAtTheChild,
         Mistake::TurnedDownStillRuns,
@@ -602,6 +661,33 @@ impl Mistake {
         Mistake::DeskTableIgnored,
         Mistake::DeskPlanBeforeTable,
         Mistake::RefusedDesksWrite,
+        Mistake::MarksBeforeFaults,
+        Mistake::MarksBeforeNewFaults,
+        Mistake::NewAnswersFirst,
+        Mistake::TaskNumbersSwapped,
+        Mistake::AnswerCut,
+        Mistake::UnreachedAnswerRefused,
+        Mistake::MarksNotCompared,
+        Mistake::MarksComparedAtTheTask,
+        Mistake::MarksComparedInTheReach,
+        Mistake::RefusedChangeWrites,
+        Mistake::OnlyThePathChanges,
+        Mistake::ContingencyForgotten,
+        Mistake::SerialForgotten,
+        Mistake::SubtreesForgotten,
+        Mistake::StopsAtTheParent,
+        Mistake::NewlyUnreachedStay,
+        Mistake::NewOffersCommit,
+        Mistake::AnswerStored,
+        Mistake::LargeAnswerFirst,
+        Mistake::LargeAnswerLast,
+        Mistake::LargeAnswerFreeWhereUnreached,
+        Mistake::MarksOfTheNewAnswers,
+        Mistake::SameAnswerUnchecked,
+        Mistake::AnyNodeChanges,
+        Mistake::TaskCut,
+        Mistake::TaskBeforeLengths,
+        Mistake::ChangeAnswersACount,
     ];
 }
 
@@ -1253,6 +1339,10 @@ impl Implementation for Broken {
             _ => {}
         }
         result
+    }
+
+    fn impact(&mut self, plan: &[u8], answers: &mut [u8], marks: &mut [u8], change: Change) -> u32 {
+        impact::impact(self.mistake, plan, answers, marks, change)
     }
 
     fn simulate(&mut self, plan: &[u8], code: u32, node: u32, site: u32, state: &mut [u8]) -> u32 {

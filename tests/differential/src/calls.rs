@@ -4,16 +4,18 @@
 use crate::codes::*;
 use crate::driver::{STRANGE, Step, Tree};
 use crate::form::{Form, HIGHEST_DESK};
-use crate::implementation::{Entry, Implementation};
+use crate::implementation::{Change, Entry, Implementation};
 use crate::plans;
 use crate::random::Random;
 use crate::tables;
 use crate::trial::Trial;
 
 mod desks;
+mod impact;
 mod points;
 
 pub use desks::{damaged_plans_with_desks, lengths_with_desks, own_desks};
+pub use impact::{every_small_plan, impacts};
 pub use points::points;
 
 /// More than the longest guard.
@@ -38,6 +40,7 @@ pub fn damaged_plans<S: Implementation, R: Implementation>(trial: &mut Trial<S, 
         trial.step(&plan, code, node, &one);
         trial.hear(&plan, code, node, &one);
         trial.pass(&plan, &one, &two);
+        trial.impact(&plan, &one, &two, Change { task: node, answer: code });
         trial.simulate(&plan, code, node, site, &state);
         let (entries, count) =
             any_entries(random, |random| event(random, nodes), |random| any_node(random, nodes));
@@ -249,6 +252,7 @@ pub fn lengths<S: Implementation, R: Implementation>(
         trial.step(plan, code, node, &one);
         trial.hear(plan, code, node, &one);
         trial.pass(plan, &one, &two);
+        trial.impact(plan, &one, &two, Change { task: node, answer: code });
         trial.simulate(plan, code, node, site, &state);
         let (entries, count) =
             any_entries(random, |random| event(random, nodes), |random| any_node(random, nodes));

@@ -8,6 +8,7 @@ use crate::tables::COMMON;
 use crate::trial::{Trial, hex};
 
 mod desks;
+mod impact;
 mod points;
 
 /// Plan P of document 01.
@@ -27,12 +28,13 @@ pub fn run<S: Implementation, R: Implementation>(trial: &mut Trial<S, R>) {
     take_backs(trial);
     points::run(trial);
     desks::run(trial);
+    impact::run(trial);
 }
 
-/// Version 1.3.0.
+/// Version 1.4.0.
 fn version<S: Implementation, R: Implementation>(trial: &mut Trial<S, R>) {
     let version = trial.version();
-    trial.tally.compare(version == 0x01_0300, || format!("the version is {version:08x}"));
+    trial.tally.compare(version == 0x01_0400, || format!("the version is {version:08x}"));
 }
 
 /// A guard: the event, its rule, and what must be written.

@@ -13,6 +13,15 @@ pub struct Slots<'a> {
     pub places: &'a mut [u64],
 }
 
+/// A task, and the answer that it gets in place of its old one.
+#[derive(Clone, Copy, Debug, PartialEq, Eq)]
+pub struct Change {
+    /// The task; any number may be asked for.
+    pub task: u32,
+    /// The new answer; any number too.
+    pub answer: u32,
+}
+
 /// An implementation of the rules, behind the interface of the C archive.
 /// Results are packed in the same way.
 pub trait Implementation {
@@ -32,6 +41,9 @@ pub trait Implementation {
     fn hear(&mut self, plan: &[u8], code: u32, node: u32, row: &mut [u8]) -> u32;
     /// The single pass.
     fn pass(&mut self, plan: &[u8], answers: &[u8], marks: &mut [u8]) -> u32;
+    /// The single pass with one answer changed. The answers stay; they could be
+    /// written, so that it can be seen that they are not.
+    fn impact(&mut self, plan: &[u8], answers: &mut [u8], marks: &mut [u8], change: Change) -> u32;
     /// A step of a simulation.
     fn simulate(&mut self, plan: &[u8], code: u32, node: u32, site: u32, state: &mut [u8]) -> u32;
     /// A step of a simulation that is kept as an entry.
@@ -183,6 +195,10 @@ impl Implementation for Reference {
 
     fn pass(&mut self, plan: &[u8], answers: &[u8], marks: &mut [u8]) -> u32 {
         exported::pass(plan, answers, marks)
+    }
+
+    fn impact(&mut self, plan: &[u8], answers: &mut [u8], marks: &mut [u8], change: Change) -> u32 {
+        exported::impact(plan, answers, marks, change.task, change.answer)
     }
 
     fn simulate(&mut self, plan: &[u8], code: u32, node: u32, site: u32, state: &mut [u8]) -> u32 {

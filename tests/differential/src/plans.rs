@@ -46,11 +46,31 @@ pub fn largest(random: &mut Random) -> Vec<u8> {
     }
 }
 
+/// All valid plans with so many nodes, which are few.
+pub fn all(nodes: usize) -> Vec<Vec<u8>> {
+    let mut open = vec![vec![]];
+    for number in 0..nodes {
+        let parents: Vec<u8> = if number == 0 { vec![NO_PARENT] } else { (0..number as u8).collect() };
+        let node = |kind| parents.iter().map(move |&parent| [kind, parent]);
+        let longer = |plan: &Vec<u8>| (1..=8).flat_map(node).map(|node| [plan, &node[..]].concat()).collect();
+        open = open.iter().flat_map::<Vec<_>, _>(longer).collect();
+    }
+    open.retain(|plan| reference::exported::check(plan) == 0);
+    open
+}
+
 /// Makes some of a valid plan's blocks xors, whose children have more events
 /// than others.
 pub fn favour_xor(random: &mut Random, plan: &mut [u8]) {
     for kind in plan.iter_mut().step_by(2).filter(|kind| !matches!(**kind, TASK | CONDITIONAL)) {
         *kind = if random.chance(50) { XOR } else { *kind };
+    }
+}
+
+/// Makes some of a valid plan's blocks take their children in turn.
+pub fn favour_turns(random: &mut Random, plan: &mut [u8]) {
+    for kind in plan.iter_mut().step_by(2).filter(|kind| !matches!(**kind, TASK | CONDITIONAL)) {
+        *kind = if random.chance(60) { random.one_of(&[SERIAL, CONTINGENCY]) } else { *kind };
     }
 }
 
@@ -358,6 +378,12 @@ mod tests {
             assert_eq!(check(&plan), 0, "{plan:02x?}");
         }
         assert_eq!(check(&largest(&mut random)), 0);
+    }
+
+    #[test]
+    fn all_small_plans_are_there() {
+        assert_eq!(all(1), [[TASK, NO_PARENT]]);
+        assert_eq!([2, 3, 4].map(|nodes| all(nodes).len()), [6, 43, 390]);
     }
 
     #[test]

@@ -19,12 +19,16 @@ pub const TURN: u64 = 40;
 pub const ONLY_CHILD_PART: u64 = 1 << 39;
 /// The part with the cases whose answers are known.
 pub const CASES_PART: u64 = ONLY_CHILD_PART + 1;
+/// The part that changes one answer in every small plan.
+pub const SMALL_PLANS_PART: u64 = ONLY_CHILD_PART + 2;
 /// The place of the parts with hosts.
 pub const HOSTS_PART: u64 = 23;
 /// The place of the parts with lists of moves.
 pub const JOURNALS_PART: u64 = 25;
 /// The place of the parts with lists of moves that have points.
 pub const POINTS_PART: u64 = 27;
+/// The place of the parts in which one answer is changed.
+pub const IMPACT_PART: u64 = 29;
 /// The first place of the parts with desks; they end a turn.
 pub const DESKS_PART: u64 = 32;
 /// The place of the parts with calls in both forms of a plan.
@@ -81,7 +85,7 @@ pub fn run_against(subject: impl Implementation, reference: impl Implementation,
         run_part(&mut trial, options.seed, part);
         part += 1;
     }
-    for part in [ONLY_CHILD_PART, CASES_PART] {
+    for part in [ONLY_CHILD_PART, CASES_PART, SMALL_PLANS_PART] {
         if trial.tally.differences() < options.enough {
             run_part(&mut trial, options.seed, part);
         }
@@ -106,6 +110,9 @@ fn run_part<S: Implementation, R: Implementation>(trial: &mut Trial<S, R>, seed:
     if part == CASES_PART {
         return cases::run(trial);
     }
+    if part == SMALL_PLANS_PART {
+        return calls::every_small_plan(trial);
+    }
     let plan = if part % (4 * TURN) == 47 { large_plan(random) } else { any_plan(random) };
     let place = part % TURN;
     if place >= DESKS_PART {
@@ -126,6 +133,7 @@ fn run_part<S: Implementation, R: Implementation>(trial: &mut Trial<S, R>, seed:
         26 => calls::journals(trial, random, &plan),
         27 => all_points(trial, random),
         28 => calls::points(trial, random, &plan, 40),
+        IMPACT_PART => calls::impacts(trial, random, &plan),
         7 => job::simulate(trial, random, &plan),
         8 | 9 => jobs(trial, random, 20, 60, 1),
         10..=15 => jobs(trial, random, 8, 20, 1),

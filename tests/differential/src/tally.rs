@@ -24,6 +24,8 @@ pub enum Function {
     Hear,
     /// `vulcedar_pass`
     Pass,
+    /// `vulcedar_impact`
+    Impact,
     /// `vulcedar_simulate`
     Simulate,
     /// `vulcedar_keep`
@@ -74,9 +76,9 @@ pub enum Function {
 }
 
 /// How many functions there are.
-const FUNCTIONS: usize = 31;
+const FUNCTIONS: usize = 32;
 /// One more than the highest number; 0 is passed.
-const NUMBERS: usize = 23;
+const NUMBERS: usize = 29;
 
 impl Function {
     /// All of them, in the order of the table.
@@ -89,6 +91,7 @@ impl Function {
         Function::Step,
         Function::Hear,
         Function::Pass,
+        Function::Impact,
         Function::Simulate,
         Function::Keep,
         Function::Undo,
@@ -125,6 +128,7 @@ impl Function {
             Function::Step => "step",
             Function::Hear => "hear",
             Function::Pass => "pass",
+            Function::Impact => "impact",
             Function::Simulate => "simulate",
             Function::Keep => "keep",
             Function::Undo => "undo",
@@ -160,6 +164,7 @@ impl Function {
             Function::Rule => &[0, 1, 2, 3, 4, 5, 6, 8, 9],
             Function::Step => &[0, 1, 2, 3, 4, 5, 6, 7, 8, 9, 10, 11],
             Function::Pass => &[0, 1, 2, 3, 4, 5, 6, 7, 13, 14],
+            Function::Impact => &[0, 1, 2, 3, 4, 5, 6, 7, 8, 9, 13, 14, 28],
             Function::Simulate | Function::Keep => &[0, 1, 2, 3, 4, 5, 6, 7, 8, 9, 10, 11, 12],
             Function::Undo | Function::PointUndo => &[0, 1, 2, 3, 4, 5, 6, 7, 8, 9, 16],
             Function::PointName => &[0, 7, 20],
@@ -232,6 +237,13 @@ pub struct Jobs {
     pub at_one_desk: u64,
     /// Calls that were made in both forms of a plan.
     pub in_both_forms: u64,
+    /// Changes of one answer that passed.
+    pub changes: u64,
+    /// Of these, with other marks than before.
+    pub with_other_marks: u64,
+    /// Of these, with other marks behind the task too, in a block that takes
+    /// its children in turn.
+    pub in_later_subtrees: u64,
 }
 
 /// A count for each rule byte.
@@ -385,6 +397,11 @@ impl fmt::Display for Tally {
             self.desk_steps(),
             jobs.at_one_desk,
             jobs.in_both_forms
+        )?;
+        writeln!(
+            out,
+            "one answer changed: {} passed, {} with other marks, {} of these in later subtrees too",
+            jobs.changes, jobs.with_other_marks, jobs.in_later_subtrees
         )?;
         writeln!(out, "rules of passed events: {} different", self.rules())?;
         writeln!(out, "texts: {}", self.texts)?;

@@ -5,6 +5,7 @@ use differential::Reference;
 use differential::broken::{Broken, Mistake};
 use differential::run::{CASES_PART, HOSTS_PART, JOURNALS_PART, ONLY_CHILD_PART, POINTS_PART, TURN};
 use differential::run::{DESK_JOBS_PART, DESK_MOVES_PART, DESK_POINTS_PART, ONE_DESK_PART, OWN_DESKS_PART};
+use differential::run::{IMPACT_PART, SMALL_PLANS_PART};
 use differential::run::{Options, run, run_against};
 use differential::tally::Tally;
 
@@ -14,9 +15,15 @@ fn of_points() -> impl Iterator<Item = Mistake> {
     before_desks.skip_while(|&mistake| mistake != Mistake::MovedPointStandsTwice)
 }
 
-/// The mistakes of the calls with desks; they stand at the end.
+/// The mistakes of the calls with desks.
 fn of_desks() -> impl Iterator<Item = Mistake> {
-    Mistake::ALL.into_iter().skip_while(|&mistake| mistake != Mistake::RowsByFirstUse)
+    let before_impact = Mistake::ALL.into_iter().take_while(|&mistake| mistake != Mistake::MarksBeforeFaults);
+    before_impact.skip_while(|&mistake| mistake != Mistake::RowsByFirstUse)
+}
+
+/// The mistakes where one answer is changed; they stand at the end.
+fn of_impact() -> impl Iterator<Item = Mistake> {
+    Mistake::ALL.into_iter().skip_while(|&mistake| mistake != Mistake::MarksBeforeFaults)
 }
 
 /// These parts find nothing between two copies of the reference, in each of
@@ -56,6 +63,7 @@ fn two_copies_of_the_reference_agree() {
     assert!(tally.jobs.tried > 300 && tally.jobs.freed > 100, "{}", tally.jobs.freed);
     assert!(tally.desk_steps() > 30_000 && tally.jobs.at_one_desk > 3000, "{}", tally.desk_steps());
     assert!(tally.jobs.in_both_forms > 1000, "{}", tally.jobs.in_both_forms);
+    assert!(tally.jobs.changes > 10_000 && tally.jobs.in_later_subtrees > 1000, "{}", tally.jobs.changes);
 }
 
 #[test]
@@ -155,7 +163,7 @@ fn a_mistake_on_both_sides_is_found() {
         Mistake::HearRefusesRepeats,
     ];
     let options = Options { seed: 15, steps: 1_000_000, texts: 0, enough: 1, only: None };
-    for mistake in mistakes.into_iter().chain(of_points()).chain(of_desks()) {
+    for mistake in mistakes.into_iter().chain(of_points()).chain(of_desks()).chain(of_impact()) {
         let tally = run_against(Broken::new(mistake), Broken::new(mistake), options);
         assert_ne!(tally.differences(), 0, "{mistake:?} on both sides is not found");
         assert!(tally.part < ONLY_CHILD_PART, "{mistake:?} is found in the fixed parts alone");
@@ -168,7 +176,7 @@ fn a_mistake_on_both_sides_is_found() {
 fn cases_have_their_answers() {
     let options = Options { only: Some(CASES_PART), ..Options::default() };
     let tally = run(Reference, options);
-    assert_eq!((tally.comparisons(), tally.differences()), (202, 0), "{:#?}", tally.described());
+    assert_eq!((tally.comparisons(), tally.differences()), (260, 0), "{:#?}", tally.described());
     let mistakes = [
         Mistake::VersionInTheLowestByte,
         Mistake::VersionOneHigher,
@@ -198,7 +206,7 @@ fn cases_have_their_answers() {
         Mistake::UndoRewritesTheEntry,
         Mistake::RefusedUndoCounts,
     ];
-    for mistake in mistakes.into_iter().chain(of_points()).chain(of_desks()) {
+    for mistake in mistakes.into_iter().chain(of_points()).chain(of_desks()).chain(of_impact()) {
         let tally = run_against(Broken::new(mistake), Broken::new(mistake), options);
         assert_ne!(tally.differences(), 0, "{mistake:?} on both sides is not found");
     }
@@ -378,6 +386,45 @@ fn one_desk_is_held_against_the_central_rule() {
         Mistake::CentralWaitingAndFailsAtOnce,
     ];
     parts_find([ONE_DESK_PART, 30], 23, |tally| tally.jobs.at_one_desk, &mistakes);
+}
+
+/// Changes of one answer alone find what is wrong with them, even if both sides
+/// do it.
+#[test]
+fn changes_are_held_against_the_pass() {
+    let mistakes: Vec<Mistake> = of_impact().collect();
+    parts_find([IMPACT_PART, 20], 24, |tally| tally.jobs.changes, &mistakes);
+}
+
+/// All changes in all small plans find these too, even if both sides make them.
+/// What they don't try are marks that are wrong, and tasks above 255.
+#[test]
+fn every_small_plan_is_tried() {
+    let options = Options { only: Some(SMALL_PLANS_PART), enough: 1, ..Options::default() };
+    let tally = run(Reference, options);
+    assert_eq!(tally.differences(), 0, "{:#?}", tally.described());
+    assert!(tally.comparisons() > 1_000_000, "{}", tally.comparisons());
+    let mistakes = [
+        Mistake::NewAnswersFirst,
+        Mistake::AnswerCut,
+        Mistake::UnreachedAnswerRefused,
+        Mistake::OnlyThePathChanges,
+        Mistake::ContingencyForgotten,
+        Mistake::SerialForgotten,
+        Mistake::SubtreesForgotten,
+        Mistake::StopsAtTheParent,
+        Mistake::NewlyUnreachedStay,
+        Mistake::NewOffersCommit,
+        Mistake::AnswerStored,
+        Mistake::LargeAnswerFirst,
+        Mistake::LargeAnswerFreeWhereUnreached,
+        Mistake::MarksOfTheNewAnswers,
+        Mistake::ChangeAnswersACount,
+    ];
+    for mistake in mistakes {
+        let tally = run_against(Broken::new(mistake), Broken::new(mistake), options);
+        assert_ne!(tally.differences(), 0, "{mistake:?} on both sides is not found");
+    }
 }
 
 /// Trying every row of an only child finds a turn-down that passes, and

@@ -14,7 +14,7 @@ use crate::simulate::Outcome;
 use crate::site::Verdict;
 use crate::table::Table;
 use crate::{central as central_rule, desks, guard as guards, journal as journals};
-use crate::{pass as passes, plan, points};
+use crate::{impact as impacts, pass as passes, plan, points};
 use crate::{rewrite as rewriting, rule as rules, simulate as simulation, site as sites, text as texts};
 
 /// The number in a packed result.
@@ -83,6 +83,13 @@ pub fn hear(plan: &[u8], code: u32, node: u32, row: &mut [u8]) -> u32 {
 #[inline(never)]
 pub fn pass(plan: &[u8], answers: &[u8], marks: &mut [u8]) -> u32 {
     done(passes::pass(plan, answers, marks))
+}
+
+/// The single pass with one task's answer changed, over marks that are those of
+/// the pass over the answers. 1 to 9, 13, 14, 28.
+#[inline(never)]
+pub fn impact(plan: &[u8], answers: &[u8], marks: &mut [u8], task: u32, answer: u32) -> u32 {
+    done(impacts::impact(plan, answers, marks, task, answer))
 }
 
 /// A step of a simulation: an event if the site is 255, else a message to
@@ -281,10 +288,10 @@ pub fn rehearse(text: &[u8], out: &mut [u8]) -> u32 {
     }
 }
 
-/// The version of these calls, a byte each for its three numbers: 1.3.0.
+/// The version of these calls, a byte each for its three numbers: 1.4.0.
 #[inline(never)]
 pub fn version() -> u32 {
-    (1 << 16) + (3 << 8)
+    (1 << 16) + (4 << 8)
 }
 
 /// The central rule; the value is 1 if the event was allowed. 1 to 9.

@@ -22,6 +22,7 @@ pub mod desks;
 pub mod event;
 pub mod exported;
 pub mod guard;
+pub mod impact;
 pub mod journal;
 pub mod layout;
 pub mod mark;

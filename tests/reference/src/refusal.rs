@@ -22,7 +22,8 @@ pub enum Refusal {
     Length = 7,
     /// A code, node or site that doesn't exist, or a desk that isn't in use.
     Unknown = 8,
-    /// The event doesn't apply to its node.
+    /// The event doesn't apply to its node, or a node that should be a task is
+    /// none.
     NotApplicable = 9,
     /// Something already heard shuts the event out.
     Barred = 10,
@@ -30,7 +31,8 @@ pub enum Refusal {
     Guard = 11,
     /// A message about something that hasn't happened.
     FalseMessage = 12,
-    /// The pass: a task's or conditional's answer is neither 1 nor 2.
+    /// The pass: a task's or conditional's answer is neither 1 nor 2; or a new
+    /// answer is no byte.
     Answer = 13,
     /// The pass: an xor's answer is not a child that offers.
     Choice = 14,
@@ -46,6 +48,8 @@ pub enum Refusal {
     Table = 21,
     /// A desk above the highest.
     Desk = 22,
+    /// Marks that are not those of the pass over their answers.
+    Marks = 28,
 }
 
 impl Refusal {

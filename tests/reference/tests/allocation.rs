@@ -75,6 +75,7 @@ fn exported_functions_do_not_allocate() {
     sum += exported::desk_record(&desks, &rows, &mut marks, &mut notes);
     sum += exported::desk_record_by(&desks, &COMMON_TABLE, &rows, &mut marks, &mut notes);
     sum += exported::pass(&plan, &answers, &mut marks);
+    sum += exported::impact(&plan, &answers, &mut marks, 5, 2);
     sum += exported::record(&plan, &state, &mut marks, &mut notes);
     sum += exported::record_by(&plan, &COMMON_TABLE, &state, &mut marks, &mut notes);
     sum += exported::pass_record(&plan, &COMMON_TABLE, &answers, &mut marks, &mut notes);

@@ -67,6 +67,24 @@ pub fn pass(plan: &[u8], answers: &[u8], marks: &mut [u8]) -> u32 {
     }
 }
 
+/// The single pass with one task's answer changed, over marks that are those of
+/// the pass over the answers.
+pub fn impact(plan: &[u8], answers: &[u8], marks: &mut [u8], task: u32, answer: u32) -> u32 {
+    // SAFETY: as for `rewrite`.
+    unsafe {
+        raw::vulcedar_impact(
+            plan.as_ptr(),
+            plan.len(),
+            answers.as_ptr(),
+            answers.len(),
+            marks.as_mut_ptr(),
+            marks.len(),
+            task,
+            answer,
+        )
+    }
+}
+
 /// A step of a simulation: an event if the site is 255, else a message to
 /// that site. The value is the rule of an event that passes.
 pub fn simulate(plan: &[u8], code: u32, node: u32, site: u32, state: &mut [u8]) -> u32 {

@@ -53,6 +53,17 @@ unsafe extern "C" {
         marks_length: usize,
     ) -> u32;
 
+    pub fn vulcedar_impact(
+        plan: *const u8,
+        plan_length: usize,
+        answers: *const u8,
+        answers_length: usize,
+        marks: *mut u8,
+        marks_length: usize,
+        task: u32,
+        answer: u32,
+    ) -> u32;
+
     pub fn vulcedar_simulate(
         plan: *const u8,
         plan_length: usize,
