@@ -1,4 +1,4 @@
--- How nodes end: what it depends on, that settling ends so, and that only a right end leaves a mark. Assumes nothing.
+-- How nodes end: what it depends on, that settling ends so, and what an end without a fault says of the children. Assumes nothing.
 use mathlib.Core.Path.{_≡_, refl, sym, _∙_, ap}
 use mathlib.Core.Bool.{Bool, true, false, cond}
 use mathlib.Core.List.{List, [], _∷_}
@@ -6,7 +6,7 @@ use mathlib.Core.Logic.{_⊎_, inl, inr}
 use Prim.Native.Nat.{ℕ, zero, suc, _+_, _≤_, _<_}
 use lib.Dec.{eqb}
 use lib.ListN.{getD}
-use borrow.Author.Tests.{eqb-true, eqb-false, ne-eqb}
+use borrow.Author.Tests.{eqb-true, eqb-false}
 use native.Mathlib.Omega.{arith}
 use Rattle.lists.specs.Member.{In, here, there}
 use Rattle.lists.proofs.Logic.{cases, decided}
@@ -15,11 +15,11 @@ use Rattle.plan.specs.Check.{Accepted}
 use Rattle.plan.specs.Under.{Under, self}
 use Rattle.plan.proofs.AcceptedLaws.{child-between}
 use Rattle.plan.proofs.UnderLaws.{under-child}
-use Rattle.pass.specs.Pass.{Outcome, works, breaks, fault, Tally, goes, goesBy, note, skip, nothing, badAnswer, badPick, closes, childMark, ending, endOf, numberOf, Settled, Walked, childSettled, meetBy, meet, walk, unwalked, close, settleIf, settleBy, settle}
-use Rattle.pass_nodes.specs.Nodes.{counted, tallied, endBy, endWithin, endAt, nextMark, markAmong}
+use Rattle.pass.specs.Pass.{Outcome, works, breaks, fault, Tally, goes, note, skip, nothing, badAnswer, childMark, ending, endOf, numberOf, Settled, Walked, childSettled, meetBy, meet, walk, unwalked, close, settleIf, settleBy, settle}
+use Rattle.pass_nodes.specs.Nodes.{counted, tallied, endBy, endWithin, endAt, nextMark}
 
 module _ (k : Kind) (x : ℕ) where
-  pub tally-same : (e g : ℕ → Outcome) (cs : List ℕ) (t : Tally) → ((c : ℕ) → In c cs → e c ≡ g c) → tallied k x e cs t ≡ tallied k x g cs t
+  tally-same : (e g : ℕ → Outcome) (cs : List ℕ) (t : Tally) → ((c : ℕ) → In c cs → e c ≡ g c) → tallied k x e cs t ≡ tallied k x g cs t
   unfolding tallied
   tally-same e g [] t h = refl
   tally-same e g (c ∷ cs) t h =
@@ -130,7 +130,7 @@ pub count-off : (k : Kind) (x : ℕ) (t : Tally) (o : Outcome) → goes k x t �
 unfolding counted
 count-off k x t o g = rw g
 
-pub count-on : (k : Kind) (x : ℕ) (t : Tally) (o : Outcome) → goes k x t ≡ true → counted k x t o ≡ note x t o
+count-on : (k : Kind) (x : ℕ) (t : Tally) (o : Outcome) → goes k x t ≡ true → counted k x t o ≡ note x t o
 unfolding counted
 count-on k x t o g = rw g
 
@@ -150,7 +150,7 @@ tally-wrong k x e (c ∷ cs) t h = ap (λ u. tallied k x e cs u .wrong) (count-o
 pub tally-sound : (k : Kind) (x : ℕ) (e : ℕ → Outcome) (cs : List ℕ) (t : Tally) → tallied k x e cs t .wrong ≡ 0 → t .wrong ≡ 0
 tally-sound k x e cs t h = cases (decided (eqb (t .wrong) 0)) (λ q. eqb-true _ _ q) (λ q. sym (tally-wrong k x e cs t q) ∙ h)
 
-pub note-number : (x : ℕ) (t : Tally) (o : Outcome) → note x t o .wrong ≡ 0 → numberOf o ≡ 0
+note-number : (x : ℕ) (t : Tally) (o : Outcome) → note x t o .wrong ≡ 0 → numberOf o ≡ 0
 unfolding note numberOf
 note-number x t works h = refl
 note-number x t breaks h = refl

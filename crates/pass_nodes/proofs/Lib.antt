@@ -6,3 +6,4 @@ pub mod ReachedLaws
 pub mod LocalLaws
 pub mod UnreadLaws
 pub mod Main
+pub mod Cases

@@ -3,7 +3,6 @@
 use mathlib.Core.Path.{_≡_, refl, sym, _∙_, ap, ap₂, subst}
 use mathlib.Core.Bool.{cond}
 use mathlib.Core.List.{List, [], _∷_}
-use mathlib.Core.Logic.{_⊎_, inl, inr}
 use Prim.Native.Nat.{ℕ, zero, suc, _+_, _≤_, _<_}
 use lib.Dec.{eqb}
 use lib.ListN.{getD}
@@ -13,7 +12,7 @@ use Rattle.lists.specs.Member.{In, here, there}
 use Rattle.lists.proofs.Logic.{cases, decided}
 use Rattle.plan.specs.Plan.{Kind, size, kind, parent, children}
 use Rattle.plan.specs.Check.{Accepted}
-use Rattle.plan.specs.Under.{Under, self, up, Below}
+use Rattle.plan.specs.Under.{Under, up, Below}
 use Rattle.plan.proofs.PlanLaws.{child-of}
 use Rattle.plan.proofs.AcceptedLaws.{child-between, parent-child}
 use Rattle.plan.proofs.UnderLaws.{under-trans, under-child, under-below}
@@ -64,9 +63,9 @@ module _ (p : List ℕ) (ok : Accepted p) (a b : List ℕ) (v : ℕ) (same : Sam
       ∙ sym (pass-by-nodes p ok b .child zb (parent p w) w i))
 
 pub marks-below : MarksBelow
-marks-below p ok a b v l same za zb on-a on-b w s h = below-same p ok a b v same za zb on-a on-b (suc w) w (omega arith) s h
+marks-below p ok a b v same za zb on-a on-b w s h = below-same p ok a b v same za zb on-a on-b (suc w) w (omega arith) s h
 
-module _ (p : List ℕ) (ok : Accepted p) (a b : List ℕ) (u : ℕ) (small : u < size p)
+module _ (p : List ℕ) (ok : Accepted p) (a b : List ℕ) (u : ℕ)
     (same : (w : ℕ) → w < size p → (Under p u w → ⊥) → getD a w 0 ≡ getD b w 0) (alike : endAt p a u ≡ endAt p b u) where
   -- a child of what is not in u's subtree is u, or is not in it either
   child-outside : (v c : ℕ) → In c (children p v) → (Under p u v → ⊥) → (u ≡ c → ⊥) → Under p u c → ⊥
@@ -106,4 +105,4 @@ module _ (p : List ℕ) (ok : Accepted p) (a b : List ℕ) (u : ℕ) (small : u 
         ∙ sym (pass-by-nodes p ok b .child (sym number-same ∙ z) (parent p w) w i))
 
 pub same-elsewhere : SameElsewhere
-same-elsewhere p ok a b u small same alike = (number-same p ok a b u small same alike, λ z w s h. marks-beside p ok a b u small same alike z (suc w) w (omega arith) s h)
+same-elsewhere p ok a b u same alike = (number-same p ok a b u same alike, λ z w s h. marks-beside p ok a b u same alike z (suc w) w (omega arith) s h)

@@ -17,10 +17,10 @@ use Rattle.plan.specs.Check.{Accepted}
 use Rattle.plan.specs.Under.{Under, self}
 use Rattle.plan.proofs.PlanLaws.{rising-children}
 use Rattle.plan.proofs.AcceptedLaws.{child-between}
-use Rattle.pass.specs.Pass.{Outcome, works, breaks, fault, Tally, goes, note, skip, nothing, badAnswer, goodMark, childMark, numberOf, Settled, Walked, childSettled, meetBy, meet, walk, unwalked, close, settleIf, settleBy, settle}
+use Rattle.pass.specs.Pass.{Outcome, Tally, goes, goodMark, childMark, numberOf, Settled, Walked, childSettled, meetBy, meet, walk, unwalked, close, settleIf, settleBy, settle}
 use Rattle.pass_nodes.specs.Nodes.{counted, tallied, endAt, nextMark, markAmong, gives}
 use Rattle.plan.proofs.UnderLaws.{under-trans, under-child, child-under, under-low, under-below, apart, through}
-use Rattle.pass_nodes.proofs.EndLaws.{meet-tally, end-is, settle-end, Clean, clean-node, end-clean, tally-sound, first-sound}
+use Rattle.pass_nodes.proofs.EndLaws.{meet-tally, end-is, settle-end, Clean, clean-node, end-clean, first-sound}
 
 -- a right end has a mark other than 0
 good-mark : (k : Kind) (x n : ℕ) → goodMark k x n ≡ 0 → ⊥

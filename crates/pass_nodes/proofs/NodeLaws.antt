@@ -1,5 +1,5 @@
 -- The main claim: the pass node by node. Assumes nothing.
-use mathlib.Core.Path.{_≡_, refl, sym, _∙_, ap}
+use mathlib.Core.Path.{_≡_, sym, _∙_, ap}
 use mathlib.Core.Bool.{cond}
 use mathlib.Core.List.{List}
 use Prim.Native.Nat.{ℕ, _<_}
@@ -14,9 +14,9 @@ use Rattle.plan.specs.Plan.{size, children}
 use Rattle.plan.specs.Check.{Accepted}
 use Rattle.plan.proofs.AcceptedLaws.{child-between}
 use Rattle.plan.proofs.UnderLaws.{under-root}
-use Rattle.pass.specs.Pass.{Outcome, works, breaks, numberOf, rootMark, passOf, pass, settle}
+use Rattle.pass.specs.Pass.{Outcome, numberOf, rootMark, passOf, pass, settle}
 use Rattle.pass_nodes.specs.Nodes.{endAt, gives, markAt}
-use Rattle.pass_nodes.specs.Claim.{ByNodes, PassByNodes}
+use Rattle.pass_nodes.specs.Claim.{PassByNodes}
 use Rattle.pass_nodes.proofs.EndLaws.{end-is, settle-end, Clean, end-clean}
 use Rattle.pass_nodes.proofs.MarkLaws.{Wrote, settle-wrote}
 

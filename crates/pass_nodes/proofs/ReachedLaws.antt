@@ -7,12 +7,12 @@ use lib.Dec.{eqb}
 use lib.ListN.{getD}
 use borrow.Author.Tests.{eqb-true, eqb-false, ne-eqb}
 use native.Mathlib.Omega.{arith}
-use Rattle.lists.specs.Member.{In, here, there}
+use Rattle.lists.specs.Member.{In}
 use Rattle.lists.proofs.Logic.{cases, decided}
 use Rattle.plan.specs.Plan.{Kind, isKind, xor, size, kind, parent, children}
 use Rattle.plan.specs.Check.{Accepted}
 use Rattle.plan.specs.Under.{Under, self, up}
-use Rattle.plan.proofs.AcceptedLaws.{child-between, parent-child}
+use Rattle.plan.proofs.AcceptedLaws.{parent-child}
 use Rattle.pass.specs.Pass.{Outcome, works, breaks, Tally, goes, nothing, goodMark, childMark, numberOf, rootMark, pass}
 use Rattle.pass_nodes.specs.Nodes.{counted, tallied, endAt, nextMark, markAmong, gives, markAt}
 use Rattle.pass_nodes.proofs.EndLaws.{Clean, CleanNode, clean-node, clean-number, end-clean, first-sound}
@@ -30,7 +30,7 @@ mark-works k x t = go (isKind xor k && not (eqb (suc (t .places)) x))
     go true = refl
     go false = refl
 
-pub mark-end : (k : Kind) (x : ℕ) (t : Tally) (o : Outcome) → Clean o → endOfMark (childMark k x t o) ≡ o
+mark-end : (k : Kind) (x : ℕ) (t : Tally) (o : Outcome) → Clean o → endOfMark (childMark k x t o) ≡ o
 unfolding childMark endOfMark
 mark-end k x t o h = cases h (λ e. rw e (mark-works k x t)) (λ e. rw e)
 

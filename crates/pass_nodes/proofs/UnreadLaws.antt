@@ -1,6 +1,6 @@
 -- Answers that the pass does not read are free. Assumes nothing.
 use mathlib.Core.Path.{_≡_, refl, sym, _∙_, ap, ap₂}
-use mathlib.Core.Bool.{Bool, true, false, cond, _&&_, not}
+use mathlib.Core.Bool.{Bool, true, false, cond}
 use mathlib.Core.List.{List, [], _∷_}
 use mathlib.Core.Logic.{_⊎_, inl, inr}
 use Prim.Native.Nat.{ℕ, zero, suc, _+_, _≤_, _<_}
@@ -15,13 +15,13 @@ use Rattle.plan.specs.Plan.{Kind, task, serial, and, or, xor, contingency, cond
 use Rattle.plan.specs.Check.{Accepted}
 use Rattle.plan.proofs.PlanLaws.{rising-children}
 use Rattle.plan.proofs.AcceptedLaws.{child-between, parent-child}
-use Rattle.pass.specs.Pass.{Outcome, works, breaks, fault, Tally, goes, goesBy, note, skip, nothing, badAnswer, badPick, closes, goodMark, childMark, ending, endOf, numberOf, rootMark, pass}
+use Rattle.pass.specs.Pass.{Outcome, works, breaks, fault, Tally, goes, goesBy, note, skip, nothing, badAnswer, badPick, closes, goodMark, childMark, endOf, numberOf, rootMark, pass}
 use Rattle.pass_nodes.specs.Nodes.{counted, tallied, endBy, endAt, nextMark, markAmong, gives, markAt, hasAnswer, Read}
 use Rattle.pass_nodes.specs.Claim.{UnreadFree}
-use Rattle.pass_nodes.proofs.EndLaws.{Clean, CleanNode, end-clean, count-on, count-off, next-on, next-off, first-sound}
+use Rattle.pass_nodes.proofs.EndLaws.{Clean, end-clean, count-off, next-on, next-off, first-sound}
 use Rattle.pass_nodes.proofs.MarkLaws.{clean-mark}
 use Rattle.pass_nodes.proofs.NodeLaws.{root-on, pass-by-nodes}
-use Rattle.pass_nodes.proofs.ReachedLaws.{Reached, node, reached, child-on, child-off, gives-is}
+use Rattle.pass_nodes.proofs.ReachedLaws.{node, reached, child-on, child-off, gives-is}
 
 -- kinds whose answer is not read
 abbrev Deaf : Kind → Type 0
@@ -33,6 +33,9 @@ record Like (t u : Tally) : Type 0 where
   worked : t .worked ≡ u .worked
   broke : t .broke ≡ u .broke
   wrong : t .wrong ≡ u .wrong
+
+like-same : (t : Tally) → Like t t
+like-same t = record { places = refl; worked = refl; broke = refl; wrong = refl }
 
 like-note : (x y : ℕ) (t u : Tally) (o : Outcome) → Like t u → Like (note x t o) (note y u o)
 unfolding note
@@ -121,7 +124,7 @@ module _ (x y : ℕ) where
     deaf-end : (cs : List ℕ) → endBy k x e cs ≡ endBy k y e cs
     unfolding endBy
     deaf-end cs = rw (bad-none k d x, bad-none k d y)
-        (like-end k d _ _ (like-tally cs nothing nothing (record { places = refl; worked = refl; broke = refl; wrong = refl })))
+        (like-end k d _ _ (like-tally cs nothing nothing (like-same nothing)))
 
 -- with other ends where no child is reached
 module _ (k : Kind) (x : ℕ) (e g : ℕ → Outcome) where
@@ -166,7 +169,7 @@ module _ (p : List ℕ) (ok : Accepted p) (a b : List ℕ) (z : pass p a .number
 
     hand-free : (e : ℕ → Outcome) (c : ℕ) → markAmong (kind p v) (getD b v 0) e (children p v) nothing c ≡ markAmong (kind p v) (getD a v 0) e (children p v) nothing c
     hand-free e c = cases answer (λ q. ap (λ x. markAmong (kind p v) x e (children p v) nothing c) (sym q))
-        (λ d. like-among (getD b v 0) (getD a v 0) (kind p v) d e (children p v) nothing nothing c (record { places = refl; worked = refl; broke = refl; wrong = refl }))
+        (λ d. like-among (getD b v 0) (getD a v 0) (kind p v) d e (children p v) nothing nothing c (like-same nothing))
 
     -- where the reached children end alike
     module _ (kids : (c : ℕ) → In c (children p v) → (markAt p a c ≡ 0 → ⊥) → endAt p b c ≡ endAt p a c) where

@@ -34,13 +34,13 @@ EndsUnder = (p : List ℕ) → Accepted p → (a b : List ℕ) (v : ℕ) → v <
 
 -- F2, F4: so do the marks below it, where both lists are accepted and reach it
 abbrev pub MarksBelow : Type 0
-MarksBelow = (p : List ℕ) → Accepted p → (a b : List ℕ) (v : ℕ) → v < size p → SameUnder p a b v → pass p a .number ≡ 0 → pass p b .number ≡ 0 →
+MarksBelow = (p : List ℕ) → Accepted p → (a b : List ℕ) (v : ℕ) → SameUnder p a b v → pass p a .number ≡ 0 → pass p b .number ≡ 0 →
     (markAt p a v ≡ 0 → ⊥) → (markAt p b v ≡ 0 → ⊥) → (w : ℕ) → w < size p → Below p v w → markAt p a w ≡ markAt p b w
 
 -- F1 to F5: answers that differ only in u's subtree and give u the same end: the pass has one number for both, and where it accepts them, the
 -- same mark at every node that is not below u
 abbrev pub SameElsewhere : Type 0
-SameElsewhere = (p : List ℕ) → Accepted p → (a b : List ℕ) (u : ℕ) → u < size p →
+SameElsewhere = (p : List ℕ) → Accepted p → (a b : List ℕ) (u : ℕ) →
     ((w : ℕ) → w < size p → (Under p u w → ⊥) → getD a w 0 ≡ getD b w 0) → endAt p a u ≡ endAt p b u →
     (pass p a .number ≡ pass p b .number) × (pass p a .number ≡ 0 → (w : ℕ) → w < size p → (Below p u w → ⊥) → markAt p a w ≡ markAt p b w)
 

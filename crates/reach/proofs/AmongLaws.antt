@@ -1,9 +1,9 @@
 -- The marks that a block gives its children where one child ends otherwise, and the end of an xor. Assumes nothing.
 use mathlib.Core.Path.{_≡_, refl, sym, _∙_, ap, subst}
-use mathlib.Core.Bool.{Bool, true, false, cond, or-false}
+use mathlib.Core.Bool.{Bool, true, false, cond}
 use mathlib.Core.List.{List, [], _∷_}
 use mathlib.Core.Logic.{_⊎_, inl, inr}
-use Prim.Native.Nat.{ℕ, zero, suc, _≤_, _<_}
+use Prim.Native.Nat.{ℕ, suc, _≤_}
 use lib.Dec.{eqb}
 use borrow.Author.Tests.{eqb-true, eq-eqb, ne-eqb}
 use native.Mathlib.Omega.{arith}
@@ -11,9 +11,9 @@ use Rattle.lists.specs.Member.{In, here, there, Rising, next}
 use Rattle.lists.proofs.Logic.{cases, clash, decided}
 use Rattle.lists.proofs.Members.{rising-above}
 use Rattle.plan.specs.Plan.{Kind, task, serial, and, or, xor, contingency, conditional, waiting}
-use Rattle.pass.specs.Pass.{Outcome, works, breaks, fault, Tally, goes, goesBy, note, skip, nothing, goodMark, childMark, badAnswer, badPick, closes, ending, endOf, numberOf}
+use Rattle.pass.specs.Pass.{Outcome, works, breaks, fault, Tally, goes, goesBy, note, skip, nothing, goodMark, childMark, badPick, closes, ending, endOf, numberOf}
 use Rattle.pass_nodes.specs.Nodes.{counted, tallied, endBy, nextMark, markAmong}
-use Rattle.pass_nodes.proofs.EndLaws.{CleanNode, clean-node, tally-sound}
+use Rattle.pass_nodes.proofs.EndLaws.{clean-node, tally-sound}
 
 -- a child's mark depends on the ends of the children up to it
 pub among-before : (k : Kind) (x : ℕ) (e g : ℕ → Outcome) (b : ℕ) (cs : List ℕ) (t : Tally) (c : ℕ) → Rising b cs → In c cs →
@@ -102,7 +102,7 @@ unchosen e (c ∷ cs) t h = unchosen e cs (counted xor 0 t (e c)) (go (goes xor 
     go true (fault n) = h
     go false o = h
 
--- a tally's end without a fault: x is the answer, y whether it is 0
+-- an xor's end without a fault: y says whether its answer is 0
 xor-by : (y worked chosen : Bool) → (y ≡ true → chosen ≡ false) → numberOf (ending 0 (cond (cond worked chosen y) 0 14) worked) ≡ 0 →
     ending 0 (cond (cond worked chosen y) 0 14) worked ≡ cond y breaks works
 unfolding ending numberOf

@@ -15,7 +15,7 @@ use Rattle.plan.specs.Plan.{task, isKind, kind, parent, size}
 use Rattle.plan.specs.Check.{Accepted}
 use Rattle.plan.specs.Under.{Under, self, up}
 use Rattle.plan.proofs.KindLaws.{same-kind}
-use Rattle.retention.specs.Record.{classOf, aboveWithin, nodesAbove, fell, countsAbove, countsAs, class}
+use Rattle.retention.specs.Record.{aboveWithin, nodesAbove, fell, countsAbove, countsAs, class}
 use Rattle.reach.specs.Claim.{ClassesReach}
 
 none-in : {u : ℕ} → In u [] → ⊥

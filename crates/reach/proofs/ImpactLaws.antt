@@ -1,28 +1,29 @@
--- The call: its number is 0 just where O6 says, and what it then leaves. Assumes nothing.
-use mathlib.Core.Path.{_≡_, refl, sym, _∙_, ap}
-use mathlib.Core.Bool.{Bool, true, false, cond, not, _&&_}
+-- The call: its number is 0 just where O6 says, which number it has otherwise, and what it leaves. Assumes nothing.
+use mathlib.Core.Path.{_≡_, refl, sym, _∙_, ap, subst}
+use mathlib.Core.Bool.{Bool, true, false, cond, not}
 use mathlib.Core.List.{List}
-use mathlib.Core.Logic.{_↔_, _⊎_, inl, inr}
-use Prim.Native.Nat.{ℕ, zero, suc, _<_, _≤_}
+use mathlib.Core.Logic.{_⊎_, inl, inr}
+use Prim.Native.Nat.{ℕ, _<_, _≤_}
 use lib.Dec.{eqb, ltb, leb}
 use lib.ListN.{length, getD, set, length-set}
 use lib.Seq.{ext-getD, getD-set-other, set-set, set-getD}
-use borrow.Author.Tests.{eqb-true, eqb-false, eq-eqb, ne-eqb, ltb-true, lt-ltb, leb-true, le-leb}
+use borrow.Author.Tests.{eqb-true, eqb-false, eq-eqb, ne-eqb, ltb-true, lt-ltb, le-ltb, leb-true, le-leb, lt-leb}
 use native.Mathlib.Omega.{arith}
-use Rattle.lists.proofs.Logic.{cases, decided, and-left, and-right, and-join, clash, test-passed, number-passed}
+use Rattle.lists.proofs.Logic.{cases, decided, test-passed, number-passed, no-bool}
 use Rattle.lists.proofs.Below.{below-at, below-by}
 use Rattle.plan.specs.Plan.{task, isKind, kindNumber, size, kind}
 use Rattle.plan.specs.Check.{Accepted}
 use Rattle.plan.proofs.KindLaws.{same-kind}
-use Rattle.pass.specs.Pass.{PassResult, passResult, pass, passNumber, passInto}
+use Rattle.pass.specs.Pass.{passResult, pass, passNumber, passInto}
 use Rattle.pass.specs.Values.{Ready}
 use Rattle.pass.proofs.PassLaws.{fits-ready, ready-fits, ready-into}
-use Rattle.pass_nodes.specs.Nodes.{markAt}
+use Rattle.pass_nodes.specs.Nodes.{markAt, Read}
 use Rattle.pass_nodes.proofs.NodeLaws.{marks-length}
+use Rattle.pass_nodes.proofs.Main.{unread-free}
 use Rattle.reach.specs.Reach.{OneTask, InReach}
 use Rattle.reach.specs.Impact.{areMarks, newNumber, changeNumber, impactNumber, impactInto}
-use Rattle.reach.specs.Claim.{Changed, ImpactRight, ImpactPasses, ImpactNone}
-use Rattle.reach.proofs.ReachLaws.{one-reaches}
+use Rattle.reach.specs.Claim.{Asked, Numbers, ImpactRight, ImpactPasses, ImpactNumbers, ImpactUnread, ImpactNone}
+use Rattle.reach.proofs.ReachLaws.{one-set, one-reaches}
 
 -- a pass into m that leaves n: the plan and the lengths are right, the answers are accepted, and n are its marks
 pub record Taken (p a m n : List ℕ) : Type 0 where
@@ -114,7 +115,7 @@ module _ (p a m : List ℕ) (t x : ℕ) where
 
   module _ (h : Meets p a m t x) where
     pub one-task : OneTask p a (set a t x) t
-    one-task = record { within = h .node; is-task = h .is-task; same = λ w ne. sym (getD-set-other a t w x 0 ne); first = h .old; second = h .new }
+    one-task = one-set p a t x (h .node) (h .is-task) (h .old) (h .new)
 
     new-ready : (n : List ℕ) → length n ≡ size p → Ready p (set a t x) n 0
     new-ready n l = record { accepted = h .ready .accepted; answers = length-set a t x ∙ h .ready .answers; marks = l; node = h .ready .node }
@@ -162,6 +163,66 @@ pub impact-passes : ImpactPasses
 impact-passes p a m t x old byte one =
     let k = taken p a m m old in
     passes p a m t x (record { ready = k .ready; node = one .within; is-task = one .is-task; old = one .first; byte = byte; new = one .second; marks = k .left })
+
+module _ (p a m : List ℕ) (t x : ℕ) where
+  -- behind 9, the number is the change's
+  asked : Asked p a m t → impactNumber p a m t x ≡ changeNumber p a m t x
+  unfolding impactNumber isKind kindNumber
+  asked h = rw (h .0, lt-ltb t (size p) (h .1), h .2)
+
+  by-kind : passNumber p a m ≡ 0 → t < size p → (kind p t ≡ task → ⊥) → impactNumber p a m t x ≡ 9
+  unfolding impactNumber
+  by-kind z l n = rw (z, lt-ltb t (size p) l, no-bool (isKind task (kind p t)) (λ e. n (same-kind task (kind p t) e)))
+
+  change-old : (pass p a .number ≡ 0 → ⊥) → changeNumber p a m t x ≡ pass p a .number
+  unfolding changeNumber
+  change-old n = rw (ne-eqb (pass p a .number) 0 n)
+
+  change-byte : pass p a .number ≡ 0 → 255 < x → changeNumber p a m t x ≡ 13
+  unfolding changeNumber newNumber
+  change-byte z l = rw (z, lt-leb x 255 l)
+
+  change-new : pass p a .number ≡ 0 → x ≤ 255 → (pass p (set a t x) .number ≡ 0 → ⊥) → changeNumber p a m t x ≡ pass p (set a t x) .number
+  unfolding changeNumber newNumber
+  change-new z l n = rw (z, le-leb x 255 l, ne-eqb (pass p (set a t x) .number) 0 n)
+
+  change-marks : passNumber p a m ≡ 0 → OneTask p a (set a t x) t → x ≤ 255 → (m ≡ pass p a .marks → ⊥) → changeNumber p a m t x ≡ 28
+  unfolding changeNumber newNumber
+  change-marks z o l n =
+      let r = fits-ready p a m z in
+      rw (o .first, le-leb x 255 l, o .second, no-bool (areMarks p a m) (λ e. n (marks-are p a m (r .marks) (r .accepted) (o .first) e)))
+
+  numbers : Numbers p a m t x
+  unfolding impactNumber impactInto
+  numbers = record {
+    by-lent = λ n. rw (ne-eqb (passNumber p a m) 0 n);
+    by-node = λ z l. rw (z, le-ltb t (size p) l);
+    by-kind = by-kind;
+    by-old = λ h n. asked h ∙ change-old n;
+    by-byte = λ h z l. asked h ∙ change-byte z l;
+    by-new = λ h z l n. asked h ∙ change-new z l n;
+    by-marks = λ h o l n. asked h ∙ change-marks (h .0) o l n;
+    kept = λ n. rw (ne-eqb (impactNumber p a m t x) 0 n);
+  }
+
+pub impact-numbers : ImpactNumbers
+impact-numbers = numbers
+
+pub impact-unread : ImpactUnread
+impact-unread p a m t x l k old off byte =
+    let h = taken p a m m old in
+    let free = unread-free p (h .ready .accepted) a (set a t x) (h .number) read in
+    impact-passes p a m t x old byte (one-set p a t x l k (h .number) (free .0))
+    ∙ ap (passResult 0) (same-marks h free ∙ sym (h .left))
+  where
+    read : (v : ℕ) → v < size p → Read p a v → getD a v 0 ≡ getD (set a t x) v 0
+    read v s r = sym (getD-set-other a t v x 0 (λ e. r .reached (subst (λ w. markAt p a w ≡ 0) (sym e) off)))
+
+    same-marks : Taken p a m m → (pass p (set a t x) .number ≡ 0) × ((v : ℕ) → v < size p → markAt p (set a t x) v ≡ markAt p a v) →
+        pass p (set a t x) .marks ≡ pass p a .marks
+    same-marks h f = unfold markAt in
+        let long = marks-length p (h .ready .accepted) (set a t x) (f .0) in
+        ext-getD 0 (pass p (set a t x) .marks) (pass p a .marks) (long ∙ sym (marks-length p (h .ready .accepted) a (h .number))) (λ v s. f .1 v (omega arith))
 
 pub impact-none : ImpactNone
 impact-none p a m t l k b = (

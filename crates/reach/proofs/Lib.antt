@@ -4,3 +4,4 @@ pub mod ReachLaws
 pub mod ClassLaws
 pub mod ImpactLaws
 pub mod Main
+pub mod Cases

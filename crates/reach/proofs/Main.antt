@@ -1,5 +1,5 @@
 -- The theorems of this crate: the claims of specs/Claim.antt. Assumes nothing.
-use Rattle.reach.specs.Claim.{OneReaches, ClassesReach, ImpactRight, ImpactPasses, ImpactNone}
+use Rattle.reach.specs.Claim.{OneReaches, ClassesReach, ImpactRight, ImpactPasses, ImpactNumbers, ImpactUnread, ImpactNone}
 use Rattle.reach.proofs.ReachLaws
 use Rattle.reach.proofs.ClassLaws
 use Rattle.reach.proofs.ImpactLaws
@@ -15,6 +15,12 @@ impact-right = ImpactLaws.impact-right
 
 pub impact-passes : ImpactPasses
 impact-passes = ImpactLaws.impact-passes
+
+pub impact-numbers : ImpactNumbers
+impact-numbers = ImpactLaws.impact-numbers
+
+pub impact-unread : ImpactUnread
+impact-unread = ImpactLaws.impact-unread
 
 pub impact-none : ImpactNone
 impact-none = ImpactLaws.impact-none

@@ -5,7 +5,8 @@ use mathlib.Core.List.{List}
 use mathlib.Core.Logic.{_⊎_, inl, inr}
 use Prim.Native.Nat.{ℕ, zero, suc, _≤_, _<_}
 use lib.Dec.{eqb, ltb}
-use lib.ListN.{getD, length}
+use lib.ListN.{getD, length, set}
+use lib.Seq.{getD-set-other}
 use borrow.Author.Tests.{eqb-true, eqb-false, ltb-true, ltb-false}
 use native.Mathlib.Omega.{arith}
 use Rattle.lists.specs.Member.{In}
@@ -13,7 +14,7 @@ use Rattle.lists.proofs.Logic.{cases, decided}
 use Rattle.lists.proofs.Members.{in-some}
 use Rattle.plan.specs.Plan.{task, xor, kindNumber, size, kind, parent, children}
 use Rattle.plan.specs.Check.{Accepted}
-use Rattle.plan.specs.Under.{Under, self, up, Below}
+use Rattle.plan.specs.Under.{Under, self, Below}
 use Rattle.plan.proofs.PlanLaws.{child-of, rising-children}
 use Rattle.plan.proofs.AcceptedLaws.{child-between, parent-child}
 use Rattle.plan.proofs.UnderLaws.{under-low, under-trans, child-under, under-below, apart, through, under-root, under?}
@@ -24,11 +25,15 @@ use Rattle.pass_nodes.proofs.EndLaws.{clean-number}
 use Rattle.pass_nodes.proofs.ReachedLaws.{endOfMark, reached, node, child-on, child-off, gives-is, above-reached}
 use Rattle.pass_nodes.proofs.Main.{pass-by-nodes, ends-under, marks-below, same-elsewhere, unread-free}
 use Rattle.reach.specs.Reach.{OneTask, Follows, InReach, above, after}
-use Rattle.reach.specs.Claim.{Reaches, OneReaches}
+use Rattle.reach.specs.Claim.{OneReaches}
 use Rattle.reach.proofs.AmongLaws.{among-before, inTurn, turn-kinds, among-free, xor-end}
 
 swapped : (p a b : List ℕ) (t : ℕ) → OneTask p a b t → OneTask p b a t
-swapped p a b t h = record { within = h .within; is-task = h .is-task; same = λ w n. sym (h .same w n); first = h .second; second = h .first }
+swapped p a b t h = record { within = h .within; is-task = h .is-task; same = λ w s n. sym (h .same w s n); first = h .second; second = h .first }
+
+-- x in the task's place
+pub one-set : (p a : List ℕ) (t x : ℕ) → t < size p → kind p t ≡ task → pass p a .number ≡ 0 → pass p (set a t x) .number ≡ 0 → OneTask p a (set a t x) t
+one-set p a t x l k za zb = record { within = l; is-task = k; same = λ w s ne. sym (getD-set-other a t w x 0 ne); first = za; second = zb }
 
 module _ (p : List ℕ) (ok : Accepted p) (a b : List ℕ) (t : ℕ) (h : OneTask p a b t) where
   -- a task that is not reached changes nothing
@@ -36,13 +41,13 @@ module _ (p : List ℕ) (ok : Accepted p) (a b : List ℕ) (t : ℕ) (h : OneTas
   unreached z w s = sym (unread-free p ok a b (h .first) read .1 w s)
     where
       read : (v : ℕ) → v < size p → Read p a v → getD a v 0 ≡ getD b v 0
-      read v l r = h .same v (λ e. r .reached (subst (λ y. markAt p a y ≡ 0) (sym e) z))
+      read v l r = h .same v l (λ e. r .reached (subst (λ y. markAt p a y ≡ 0) (sym e) z))
 
   -- lists that differ at t are the same in a subtree that t is not in
   same-aside : (d : ℕ) → (Under p d t → ⊥) → SameUnder p a b d
-  same-aside d n w s x = h .same w (λ e. n (subst (Under p d) e x))
+  same-aside d n w s x = h .same w s (λ e. n (subst (Under p d) e x))
 
-  -- a block above the task
+  -- the task has no child
   no-parent : (u c : ℕ) → In c (children p u) → u ≡ t → ⊥
   no-parent u c i e =
       let some = in-some (subst (λ z. In c (children p z)) e i) in
@@ -58,7 +63,7 @@ module _ (p : List ℕ) (ok : Accepted p) (a b : List ℕ) (t : ℕ) (h : OneTas
     u-in = let q = child-between p ok u i in omega arith
 
     answer : getD a u 0 ≡ getD b u 0
-    answer = h .same u (no-parent u w i)
+    answer = h .same u u-in (no-parent u w i)
 
     -- what u gives to w
     module _ (x : Under p u t)
@@ -113,7 +118,7 @@ module _ (p : List ℕ) (ok : Accepted p) (a b : List ℕ) (t : ℕ) (h : OneTas
         (λ e. inl (cases (decided (eqb (markAt p a u) 0))
         (λ q. let o = eqb-true (markAt p a u) 0 q in child-off p ok a (h .first) u w i o ∙ sym (child-off p ok b (h .second) u w i (sym e ∙ o)))
         (λ q. let o = eqb-false (markAt p a u) 0 q in
-        marks-below p ok a b u u-in (same-aside u n) (h .first) (h .second) o (λ z. o (e ∙ z)) w (child-between p ok u i .1) (under-below p u w lower (child-under p u w i)))))
+        marks-below p ok a b u (same-aside u n) (h .first) (h .second) o (λ z. o (e ∙ z)) w (child-between p ok u i .1) (under-below p u w lower (child-under p u w i)))))
         (λ s. inr (deeper s))
       where
         lower : u ≡ w → ⊥
@@ -165,7 +170,7 @@ module _ (p : List ℕ) (ok : Accepted p) (a b : List ℕ) (t : ℕ) (h : OneTas
     low = let l = under-low p ok u t (h .within) x in omega (arith, h .within)
 
     beside-alike : endAt p a u ≡ endAt p b u → (w : ℕ) → w < size p → (Below p u w → ⊥) → markAt p a w ≡ markAt p b w
-    beside-alike e = same-elsewhere p ok a b u low (λ w s n. h .same w (λ q. n (subst (Under p u) (sym q) x))) e .1 (h .first)
+    beside-alike e = same-elsewhere p ok a b u (λ w s n. h .same w s (λ q. n (subst (Under p u) (sym q) x))) e .1 (h .first)
 
     outside : markAt p a u ≡ markAt p b u → (w : ℕ) → w < size p → (Below p u w → ⊥) → markAt p a w ≡ markAt p b w
     outside e w s n = cases met
@@ -188,7 +193,7 @@ module _ (p : List ℕ) (ok : Accepted p) (a b : List ℕ) (t : ℕ) (h : OneTas
     xors k = cases met
         (λ m. beside-alike
         (xor-says p ok a (h .first) u low k (above-reached p ok a (h .first) u t (h .within) x (m .0))
-        ∙ ap (λ y. cond (eqb y 0) breaks works) (h .same u (xor-no-task k))
+        ∙ ap (λ y. cond (eqb y 0) breaks works) (h .same u low (xor-no-task k))
         ∙ sym (xor-says p ok b (h .second) u low k (above-reached p ok b (h .second) u t (h .within) x (m .1)))) u low (not-below u (self refl)))
         (λ all. all u low)
       where

@@ -7,11 +7,11 @@ use lib.ListN.{length, getD, set}
 use Rattle.plan.specs.Plan.{task, xor, kind, size}
 use Rattle.plan.specs.Check.{Accepted}
 use Rattle.plan.specs.Under.{Under, Below}
-use Rattle.pass.specs.Pass.{passResult, pass, passInto}
+use Rattle.pass.specs.Pass.{passResult, pass, passNumber, passInto}
 use Rattle.pass_nodes.specs.Nodes.{markAt}
 use Rattle.retention.specs.Record.{class}
 use Rattle.reach.specs.Reach.{OneTask, InReach}
-use Rattle.reach.specs.Impact.{impactInto}
+use Rattle.reach.specs.Impact.{impactNumber, impactInto}
 
 -- O2 to O4: what two lists of answers that differ at the task t do to the marks
 pub record Reaches (p a b : List ℕ) (t : ℕ) : Type 0 where
@@ -54,6 +54,34 @@ ImpactRight = (p a m : List ℕ) (t x : ℕ) (n : List ℕ) → impactInto p a m
 abbrev pub ImpactPasses : Type 0
 ImpactPasses = (p a m : List ℕ) (t x : ℕ) → passInto p a m ≡ passResult 0 m → x ≤ 255 → OneTask p a (set a t x) t →
     impactInto p a m t x ≡ passResult 0 (pass p (set a t x) .marks)
+
+-- O6: the plan, the lengths and the task are right
+abbrev pub Asked : List ℕ → List ℕ → List ℕ → ℕ → Type 0
+Asked p a m t = (passNumber p a m ≡ 0) × (t < size p) × (kind p t ≡ task)
+
+-- O6, H0: every number, where none before it fits
+pub record Numbers (p a m : List ℕ) (t x : ℕ) : Type 0 where
+  -- 1 to 7 as the pass has them, then 8 and 9
+  pub by-lent : (passNumber p a m ≡ 0 → ⊥) → impactNumber p a m t x ≡ passNumber p a m
+  pub by-node : passNumber p a m ≡ 0 → size p ≤ t → impactNumber p a m t x ≡ 8
+  pub by-kind : passNumber p a m ≡ 0 → t < size p → (kind p t ≡ task → ⊥) → impactNumber p a m t x ≡ 9
+  -- 13 or 14 of the answers, then of the new one and of the list that has it
+  pub by-old : Asked p a m t → (pass p a .number ≡ 0 → ⊥) → impactNumber p a m t x ≡ pass p a .number
+  pub by-byte : Asked p a m t → pass p a .number ≡ 0 → 255 < x → impactNumber p a m t x ≡ 13
+  pub by-new : Asked p a m t → pass p a .number ≡ 0 → x ≤ 255 → (pass p (set a t x) .number ≡ 0 → ⊥) → impactNumber p a m t x ≡ pass p (set a t x) .number
+  -- 28
+  pub by-marks : Asked p a m t → OneTask p a (set a t x) t → x ≤ 255 → (m ≡ pass p a .marks → ⊥) → impactNumber p a m t x ≡ 28
+  -- H: a refused call leaves the marks
+  pub kept : (impactNumber p a m t x ≡ 0 → ⊥) → impactInto p a m t x ≡ passResult (impactNumber p a m t x) m
+
+-- CLAIM (O6)
+abbrev pub ImpactNumbers : Type 0
+ImpactNumbers = (p a m : List ℕ) (t x : ℕ) → Numbers p a m t x
+
+-- O6: any byte is free at a task that the pass does not reach, and changes nothing
+abbrev pub ImpactUnread : Type 0
+ImpactUnread = (p a m : List ℕ) (t x : ℕ) → t < size p → kind p t ≡ task → passInto p a m ≡ passResult 0 m → markAt p a t ≡ 0 → x ≤ 255 →
+    impactInto p a m t x ≡ passResult 0 m
 
 -- O8: with the answer that is there already, the call passes just where the pass does and leaves these marks, and it leaves them too
 abbrev pub ImpactNone : Type 0

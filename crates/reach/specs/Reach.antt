@@ -12,7 +12,7 @@ use Rattle.pass.specs.Pass.{pass}
 pub record OneTask (p a b : List ℕ) (t : ℕ) : Type 0 where
   pub within : t < size p
   pub is-task : kind p t ≡ task
-  pub same : (w : ℕ) → (w ≡ t → ⊥) → getD a w 0 ≡ getD b w 0
+  pub same : (w : ℕ) → w < size p → (w ≡ t → ⊥) → getD a w 0 ≡ getD b w 0
   pub first : pass p a .number ≡ 0
   pub second : pass p b .number ≡ 0
 
