@@ -13,6 +13,9 @@ use Rattle.lists.specs.Member.{In, here, there, Rising, end, next}
 use Rattle.lists.proofs.Logic.{both, either, and-left, and-right, decided}
 
 module _ {A : Type 0} where
+  pub in-none : {x : A} → In x [] → ⊥
+  in-none = elim [ ]
+
   pub all-at : (f : A → Bool) {xs : List A} {x : A} → In x xs → all f xs ≡ true → f x ≡ true
   unfolding all
   all-at f (here {y = y} {xs = xs} q) h = ap f q ∙ and-left (f y) (all f xs) h

@@ -7,7 +7,7 @@ use Prim.Native.Nat.{ℕ}
 use Rattle.lists.specs.Seq.{keep, upFrom}
 use Rattle.plan.specs.Plan.{task, serial, and, or, xor, contingency, conditional, waiting, kindNumber, isKind, kindOf, size, kindByte, kind, parent, childrenBelow, children}
 use Rattle.pass.specs.Pass.{Outcome, works, breaks, fault, goesBy, goes, oneOrTwo, badAnswer, badPick, closes, goodMark, childMark, skip, note, ending, endOf, nothing, unwalked, childSettled, meetBy, meet, walk, close, settleIf, settleBy, settle, numberOf, rootMark, passOf, pass}
-use Rattle.pass_nodes.specs.Nodes.{counted, tallied, endBy, endWithin, endAt, nextMark, markAmong, gives, markAt, hasAnswer}
+use Rattle.pass_nodes.specs.Nodes.{counted, tallied, endBy, endWithin, endAt, nextMark, markAmong, gives, passMark, hasAnswer}
 
 -- a plan and answers, and what every node comes to: how it ends by itself, and its mark
 pub record Case : Type 0 where
@@ -81,8 +81,8 @@ pub all-ends : map (λ k. map (endAt (k .plan) (k .answers)) (upFrom 0 (size (k 
 unfolding endAt endWithin endBy tallied counted nothing endOf ending note skip closes badPick badAnswer oneOrTwo goes goesBy kindOf size kindByte kind parent childrenBelow children keep upFrom cases case
 all-ends = refl
 
-pub all-marks : map (λ k. map (markAt (k .plan) (k .answers)) (upFrom 0 (size (k .plan)))) cases ≡ map (λ k. k .marks) cases
-unfolding markAt pass passOf rootMark settle settleBy settleIf close walk meet meetBy childSettled unwalked nothing endOf ending note skip childMark goodMark closes badPick badAnswer oneOrTwo goes goesBy kindNumber isKind kindOf size kindByte kind parent childrenBelow children keep upFrom cases case
+pub all-marks : map (λ k. map (passMark (k .plan) (k .answers)) (upFrom 0 (size (k .plan)))) cases ≡ map (λ k. k .marks) cases
+unfolding passMark pass passOf rootMark settle settleBy settleIf close walk meet meetBy childSettled unwalked nothing endOf ending note skip childMark goodMark closes badPick badAnswer oneOrTwo goes goesBy kindNumber isKind kindOf size kindByte kind parent childrenBelow children keep upFrom cases case
 all-marks = refl
 
 -- a list that is refused: the first fault met is the root's end

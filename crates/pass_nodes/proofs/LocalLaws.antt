@@ -17,7 +17,7 @@ use Rattle.plan.proofs.PlanLaws.{child-of}
 use Rattle.plan.proofs.AcceptedLaws.{child-between, parent-child}
 use Rattle.plan.proofs.UnderLaws.{under-trans, under-child, under-below}
 use Rattle.pass.specs.Pass.{Outcome, Tally, nothing, numberOf, rootMark, pass}
-use Rattle.pass_nodes.specs.Nodes.{counted, endBy, endAt, nextMark, markAmong, gives, markAt}
+use Rattle.pass_nodes.specs.Nodes.{counted, endBy, endAt, nextMark, markAmong, gives, passMark}
 use Rattle.pass_nodes.specs.Claim.{SameUnder, MarksBelow, SameElsewhere}
 use Rattle.pass_nodes.proofs.EndLaws.{end-same, end-under}
 use Rattle.pass_nodes.proofs.NodeLaws.{pass-by-nodes}
@@ -42,12 +42,12 @@ module _ (p : List ℕ) (a b : List ℕ) (v : ℕ) (answer : getD a v 0 ≡ getD
       ∙ end-same (kind p v) (getD b v 0) (endAt p a) (endAt p b) (children p v) kids ∙ sym (pass-by-nodes p ok b .ends v l)
 
 module _ (p : List ℕ) (ok : Accepted p) (a b : List ℕ) (v : ℕ) (same : SameUnder p a b v) (za : pass p a .number ≡ 0) (zb : pass p b .number ≡ 0)
-    (on-a : markAt p a v ≡ 0 → ⊥) (on-b : markAt p b v ≡ 0 → ⊥) where
+    (on-a : passMark p a v ≡ 0 → ⊥) (on-b : passMark p b v ≡ 0 → ⊥) where
   gives-under : (u : ℕ) → u < size p → Under p v u → (c : ℕ) → gives p a u c ≡ gives p b u c
   gives-under u l x = gives-same p a b u (same u l x)
       (λ c i. end-under p ok a b c (child-between p ok u i .1) (λ w s y. same w s (under-trans p v u w x (under-child p u c w i y))))
 
-  below-same : (n w : ℕ) → w < n → w < size p → Below p v w → markAt p a w ≡ markAt p b w
+  below-same : (n w : ℕ) → w < n → w < size p → Below p v w → passMark p a w ≡ passMark p b w
   below-same zero w l s h = absurd (omega arith)
   below-same (suc n) w l s h =
       let low = ok .below w (h .0) s in
@@ -56,8 +56,8 @@ module _ (p : List ℕ) (ok : Accepted p) (a b : List ℕ) (v : ℕ) (same : Sam
       let g = gives-under (parent p w) u (h .1) w in
       cases (decided (eqb v (parent p w)))
       (λ e. let q = eqb-true v (parent p w) e in
-      child-on p ok a za (parent p w) w i (subst (λ z. markAt p a z ≡ 0 → ⊥) q on-a) ∙ g
-      ∙ sym (child-on p ok b zb (parent p w) w i (subst (λ z. markAt p b z ≡ 0 → ⊥) q on-b)))
+      child-on p ok a za (parent p w) w i (subst (λ z. passMark p a z ≡ 0 → ⊥) q on-a) ∙ g
+      ∙ sym (child-on p ok b zb (parent p w) w i (subst (λ z. passMark p b z ≡ 0 → ⊥) q on-b)))
       (λ e. pass-by-nodes p ok a .child za (parent p w) w i
       ∙ ap₂ (λ m n. cond (eqb m 0) 0 n) (below-same n (parent p w) (omega arith) u (under-below p v (parent p w) (eqb-false v (parent p w) e) (h .1))) g
       ∙ sym (pass-by-nodes p ok b .child zb (parent p w) w i))
@@ -89,7 +89,7 @@ module _ (p : List ℕ) (ok : Accepted p) (a b : List ℕ) (u : ℕ)
   number-same = pass-by-nodes p ok a .number ∙ ap numberOf (ends-beside 0 (ok .some) root-beside) ∙ sym (pass-by-nodes p ok b .number)
 
   module _ (z : pass p a .number ≡ 0) where
-    marks-beside : (n w : ℕ) → w < n → w < size p → (Below p u w → ⊥) → markAt p a w ≡ markAt p b w
+    marks-beside : (n w : ℕ) → w < n → w < size p → (Below p u w → ⊥) → passMark p a w ≡ passMark p b w
     marks-beside zero w l s h = absurd (omega arith)
     marks-beside (suc n) w l s h = cases (decided (eqb w 0))
         (λ e. rw (eqb-true w 0 e) (pass-by-nodes p ok a .root z ∙ ap rootMark (ends-beside 0 (ok .some) root-beside) ∙ sym (pass-by-nodes p ok b .root (sym number-same ∙ z))))

@@ -11,7 +11,7 @@ use borrow.Author.Tests.{eqb-true, eqb-false, eq-eqb, ne-eqb}
 use native.Mathlib.Omega.{arith}
 use Rattle.lists.specs.Member.{In, here, there, Rising, next}
 use Rattle.lists.proofs.Logic.{cases, decided}
-use Rattle.lists.proofs.Members.{rising-above}
+use Rattle.lists.proofs.Members.{in-none, rising-above}
 use Rattle.plan.specs.Plan.{Kind, isKind, xor, size, kind, children}
 use Rattle.plan.specs.Check.{Accepted}
 use Rattle.plan.specs.Under.{Under, self}
@@ -133,10 +133,7 @@ module _ (p : List ℕ) (ok : Accepted p) (a : List ℕ) where
         ((c : ℕ) → In c cs → (m : List ℕ) → f c m .outcome ≡ endAt p a c) → ((c : ℕ) → In c cs → Settler f c) → length (t .marks) ≡ size p →
         ((c : ℕ) → In c cs → Clear c (t .marks)) → tallied k x (endAt p a) cs (t .tally) .wrong ≡ 0 → Went v cs (t .tally) (t .marks) (walk f k x cs t .marks)
     unfolding walk markAmong
-    went d [] t r kin e y l h s = record { long = l; own = λ c i. absurd (none i); deep = λ c i. absurd (none i); frame = λ u n. refl }
-      where
-        none : {c : ℕ} → In c [] → ⊥
-        none = elim [ ]
+    went d [] t r kin e y l h s = record { long = l; own = λ c i. absurd (in-none i); deep = λ c i. absurd (in-none i); frame = λ u n. refl }
     went d (c ∷ cs) t (next lt r) kin e y l h s = join (went c cs (meet f k x t c) r (λ c i. kin c (there i)) (λ c i. e c (there i)) (λ c i. y c (there i)) (one .long)
         (λ c′ i u b un. one .frame u (λ un′. others c′ i u un′ un) ∙ h c′ (there i) u b un) (rw met s′))
       where

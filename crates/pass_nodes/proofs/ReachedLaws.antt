@@ -14,7 +14,7 @@ use Rattle.plan.specs.Check.{Accepted}
 use Rattle.plan.specs.Under.{Under, self, up}
 use Rattle.plan.proofs.AcceptedLaws.{parent-child}
 use Rattle.pass.specs.Pass.{Outcome, works, breaks, Tally, goes, nothing, goodMark, childMark, numberOf, rootMark, pass}
-use Rattle.pass_nodes.specs.Nodes.{counted, tallied, endAt, nextMark, markAmong, gives, markAt}
+use Rattle.pass_nodes.specs.Nodes.{counted, tallied, endAt, nextMark, markAmong, gives, passMark}
 use Rattle.pass_nodes.proofs.EndLaws.{Clean, CleanNode, clean-node, clean-number, end-clean, first-sound}
 use Rattle.pass_nodes.proofs.NodeLaws.{pass-by-nodes}
 
@@ -56,23 +56,23 @@ among-end k x e (d ∷ cs) t c cl s nz = cases (decided (eqb d c))
 module _ (p : List ℕ) (ok : Accepted p) (a : List ℕ) (z : pass p a .number ≡ 0) where
   pub record Reached (v : ℕ) : Type 0 where
     pub clean : Clean (endAt p a v)
-    pub mark : endOfMark (markAt p a v) ≡ endAt p a v
+    pub mark : endOfMark (passMark p a v) ≡ endAt p a v
 
   pub node : (v : ℕ) → v < size p → Reached v → CleanNode (kind p v) (getD a v 0) (endAt p a) (children p v)
   node v l r = clean-node (kind p v) (getD a v 0) (endAt p a) (children p v) (rw (pass-by-nodes p ok a .ends v l) at (clean-number (endAt p a v) (r .clean)))
 
   -- a reached node's child has what it gives out
-  pub child-on : (v c : ℕ) → In c (children p v) → (markAt p a v ≡ 0 → ⊥) → markAt p a c ≡ gives p a v c
-  child-on v c i nz = pass-by-nodes p ok a .child z v c i ∙ rw (ne-eqb (markAt p a v) 0 nz)
+  pub child-on : (v c : ℕ) → In c (children p v) → (passMark p a v ≡ 0 → ⊥) → passMark p a c ≡ gives p a v c
+  child-on v c i nz = pass-by-nodes p ok a .child z v c i ∙ rw (ne-eqb (passMark p a v) 0 nz)
 
-  pub child-off : (v c : ℕ) → In c (children p v) → markAt p a v ≡ 0 → markAt p a c ≡ 0
+  pub child-off : (v c : ℕ) → In c (children p v) → passMark p a v ≡ 0 → passMark p a c ≡ 0
   child-off v c i e = pass-by-nodes p ok a .child z v c i ∙ rw e
 
   pub gives-is : (v c : ℕ) → gives p a v c ≡ markAmong (kind p v) (getD a v 0) (endAt p a) (children p v) nothing c
   unfolding gives
   gives-is v c = refl
 
-  reached-by : (n v : ℕ) → v < n → v < size p → (markAt p a v ≡ 0 → ⊥) → Reached v
+  reached-by : (n v : ℕ) → v < n → v < size p → (passMark p a v ≡ 0 → ⊥) → Reached v
   reached-by zero v l s nz = absurd (omega arith)
   reached-by (suc n) v l s nz = cases (decided (eqb v 0))
       (λ e. let q = end-clean p ok a 0 (ok .some) (sym (pass-by-nodes p ok a .number) ∙ z) in
@@ -80,18 +80,18 @@ module _ (p : List ℕ) (ok : Accepted p) (a : List ℕ) (z : pass p a .number �
       (λ e. let ne : v ≡ 0 → ⊥ = eqb-false v 0 e in
       let low = ok .below v (omega arith) s in
       let i = parent-child p ok v (omega arith) s in
-      let up : markAt p a (parent p v) ≡ 0 → ⊥ = λ q. nz (child-off (parent p v) v i q) in
+      let up : passMark p a (parent p v) ≡ 0 → ⊥ = λ q. nz (child-off (parent p v) v i q) in
       let r = node (parent p v) (omega arith) (reached-by n (parent p v) (omega arith) (omega arith) up) in
       let h = among-end (kind p (parent p v)) (getD a (parent p v) 0) (endAt p a) (children p (parent p v)) nothing v (end-clean p ok a v s) (r .sound)
       (λ q. nz (child-on (parent p v) v i up ∙ gives-is (parent p v) v ∙ q)) in
       record { clean = h .0; mark = ap endOfMark (child-on (parent p v) v i up ∙ gives-is (parent p v) v) ∙ h .1 })
 
-  pub reached : (v : ℕ) → v < size p → (markAt p a v ≡ 0 → ⊥) → Reached v
+  pub reached : (v : ℕ) → v < size p → (passMark p a v ≡ 0 → ⊥) → Reached v
   reached v s nz = reached-by (suc v) v (omega arith) s nz
 
   -- what is above a reached node is reached
-  pub above-reached : (u w : ℕ) → w < size p → Under p u w → (markAt p a w ≡ 0 → ⊥) → markAt p a u ≡ 0 → ⊥
-  above-reached u w s (self e) nz = subst (λ v. markAt p a v ≡ 0 → ⊥) (sym e) nz
+  pub above-reached : (u w : ℕ) → w < size p → Under p u w → (passMark p a w ≡ 0 → ⊥) → passMark p a u ≡ 0 → ⊥
+  above-reached u w s (self e) nz = subst (λ v. passMark p a v ≡ 0 → ⊥) (sym e) nz
   above-reached u w s (up l b) nz =
       let low = ok .below w l s in
       above-reached u (parent p w) (omega arith) b (λ q. nz (child-off (parent p w) w (parent-child p ok w l s) q))

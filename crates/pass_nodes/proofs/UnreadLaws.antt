@@ -16,7 +16,7 @@ use Rattle.plan.specs.Check.{Accepted}
 use Rattle.plan.proofs.PlanLaws.{rising-children}
 use Rattle.plan.proofs.AcceptedLaws.{child-between, parent-child}
 use Rattle.pass.specs.Pass.{Outcome, works, breaks, fault, Tally, goes, goesBy, note, skip, nothing, badAnswer, badPick, closes, goodMark, childMark, endOf, numberOf, rootMark, pass}
-use Rattle.pass_nodes.specs.Nodes.{counted, tallied, endBy, endAt, nextMark, markAmong, gives, markAt, hasAnswer, Read}
+use Rattle.pass_nodes.specs.Nodes.{counted, tallied, endBy, endAt, nextMark, markAmong, gives, passMark, hasAnswer, Read}
 use Rattle.pass_nodes.specs.Claim.{UnreadFree}
 use Rattle.pass_nodes.proofs.EndLaws.{Clean, end-clean, count-off, next-on, next-off, first-sound}
 use Rattle.pass_nodes.proofs.MarkLaws.{clean-mark}
@@ -160,7 +160,7 @@ module _ (k : Kind) (x : ℕ) (e g : ℕ → Outcome) where
 module _ (p : List ℕ) (ok : Accepted p) (a b : List ℕ) (z : pass p a .number ≡ 0)
     (same : (v : ℕ) → v < size p → Read p a v → getD a v 0 ≡ getD b v 0) where
   -- at a reached node the answer is the same, or not read
-  module _ (v : ℕ) (l : v < size p) (nz : markAt p a v ≡ 0 → ⊥) where
+  module _ (v : ℕ) (l : v < size p) (nz : passMark p a v ≡ 0 → ⊥) where
     answer : (getD a v 0 ≡ getD b v 0) ⊎ Deaf (kind p v)
     answer = cases (decided (hasAnswer (kind p v))) (λ h. inl (same v l (record { by-kind = h; reached = nz }))) (λ d. inr d)
 
@@ -172,7 +172,7 @@ module _ (p : List ℕ) (ok : Accepted p) (a b : List ℕ) (z : pass p a .number
         (λ d. like-among (getD b v 0) (getD a v 0) (kind p v) d e (children p v) nothing nothing c (like-same nothing))
 
     -- where the reached children end alike
-    module _ (kids : (c : ℕ) → In c (children p v) → (markAt p a c ≡ 0 → ⊥) → endAt p b c ≡ endAt p a c) where
+    module _ (kids : (c : ℕ) → In c (children p v) → (passMark p a c ≡ 0 → ⊥) → endAt p b c ≡ endAt p a c) where
       seen-here : (tallied (kind p v) (getD a v 0) (endAt p b) (children p v) nothing ≡ tallied (kind p v) (getD a v 0) (endAt p a) (children p v) nothing)
           × ((c : ℕ) → markAmong (kind p v) (getD a v 0) (endAt p b) (children p v) nothing c ≡ markAmong (kind p v) (getD a v 0) (endAt p a) (children p v) nothing c)
       seen-here = seen (kind p v) (getD a v 0) (endAt p a) (endAt p b) 0 (children p v) nothing (rising-children p v)
@@ -189,17 +189,17 @@ module _ (p : List ℕ) (ok : Accepted p) (a b : List ℕ) (z : pass p a .number
       unfolding gives
       gives-here c = hand-free (endAt p b) c ∙ seen-here .1 c
 
-  ends : (f v : ℕ) → size p ≤ v + f → v < size p → (markAt p a v ≡ 0 → ⊥) → endAt p b v ≡ endAt p a v
+  ends : (f v : ℕ) → size p ≤ v + f → v < size p → (passMark p a v ≡ 0 → ⊥) → endAt p b v ≡ endAt p a v
   ends zero v h l nz = absurd (omega arith)
   ends (suc f) v h l nz = end-here v l nz (λ c i n. let q = child-between p ok v i in ends f c (omega arith) (q .1) n)
 
-  ended : (v : ℕ) → v < size p → (markAt p a v ≡ 0 → ⊥) → endAt p b v ≡ endAt p a v
+  ended : (v : ℕ) → v < size p → (passMark p a v ≡ 0 → ⊥) → endAt p b v ≡ endAt p a v
   ended v l nz = ends (size p) v (omega arith) l nz
 
   number-free : pass p b .number ≡ 0
   number-free = pass-by-nodes p ok b .number ∙ ap numberOf (ended 0 (ok .some) (root-on p ok a z)) ∙ sym (pass-by-nodes p ok a .number) ∙ z
 
-  marks : (n v : ℕ) → v < n → v < size p → markAt p b v ≡ markAt p a v
+  marks : (n v : ℕ) → v < n → v < size p → passMark p b v ≡ passMark p a v
   marks zero v l s = absurd (omega arith)
   marks (suc n) v l s = cases (decided (eqb v 0))
       (λ e. rw (eqb-true v 0 e) (pass-by-nodes p ok b .root number-free ∙ ap rootMark (ended 0 (ok .some) (root-on p ok a z)) ∙ sym (pass-by-nodes p ok a .root z)))
@@ -207,10 +207,10 @@ module _ (p : List ℕ) (ok : Accepted p) (a b : List ℕ) (z : pass p a .number
       let low = ok .below v (omega arith) s in
       let i = parent-child p ok v (omega arith) s in
       let up = marks n (parent p v) (omega arith) (omega arith) in
-      cases (decided (eqb (markAt p a (parent p v)) 0))
-      (λ q. let off = eqb-true (markAt p a (parent p v)) 0 q in
+      cases (decided (eqb (passMark p a (parent p v)) 0))
+      (λ q. let off = eqb-true (passMark p a (parent p v)) 0 q in
       child-off p ok b number-free (parent p v) v i (up ∙ off) ∙ sym (child-off p ok a z (parent p v) v i off))
-      (λ q. let on = eqb-false (markAt p a (parent p v)) 0 q in
+      (λ q. let on = eqb-false (passMark p a (parent p v)) 0 q in
       child-on p ok b number-free (parent p v) v i (λ h. on (sym up ∙ h))
       ∙ gives-here (parent p v) (omega arith) on (λ c j n. ended c (child-between p ok (parent p v) j .1) n) v ∙ sym (child-on p ok a z (parent p v) v i on)))
 

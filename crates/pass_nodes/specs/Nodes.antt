@@ -44,8 +44,8 @@ unfoldable pub gives : List ℕ → List ℕ → ℕ → ℕ → ℕ
 gives p a v c = markAmong (kind p v) (getD a v 0) (endAt p a) (children p v) nothing c
 
 -- F4: the mark that the pass leaves at v
-unfoldable pub markAt : List ℕ → List ℕ → ℕ → ℕ
-markAt p a v = getD (pass p a .marks) v 0
+unfoldable pub passMark : List ℕ → List ℕ → ℕ → ℕ
+passMark p a v = getD (pass p a .marks) v 0
 
 -- F1, table: the answer of a node of this kind means something
 unfoldable pub hasAnswer : Kind → Bool
@@ -61,4 +61,4 @@ hasAnswer waiting = false
 -- F1: the pass reads v's answer: it means something, and v is reached
 pub record Read (p a : List ℕ) (v : ℕ) : Type 0 where
   pub by-kind : hasAnswer (kind p v) ≡ true
-  pub reached : markAt p a v ≡ 0 → ⊥
+  pub reached : passMark p a v ≡ 0 → ⊥

@@ -17,7 +17,7 @@ use Rattle.plan.specs.Under.{Under, self, up}
 use Rattle.plan.proofs.UnderLaws.{under-low}
 use Rattle.plan.proofs.Main.{check-exact}
 use Rattle.pass.specs.Pass.{PassResult, passResult, goesBy, goes, oneOrTwo, badAnswer, badPick, closes, goodMark, childMark, skip, note, ending, endOf, nothing, unwalked, childSettled, meetBy, meet, walk, close, settleIf, settleBy, settle, numberOf, rootMark, passOf, pass, passNumber}
-use Rattle.pass_nodes.specs.Nodes.{markAt}
+use Rattle.pass_nodes.specs.Nodes.{passMark}
 use Rattle.reach.specs.Reach.{OneTask, Follows, InReach, above, after}
 use Rattle.reach.specs.Impact.{areMarks, newNumber, changeNumber, impactNumber, impactInto}
 use Rattle.reach.proofs.ReachLaws.{one-set}
@@ -192,8 +192,8 @@ all-changes = refl
 pub record Turned (p a : List ℕ) (t x w m n : ℕ) : Type 0 where
   pub one-task : OneTask p a (set a t x) t
   pub in-reach : InReach p t w
-  pub was : markAt p a w ≡ m
-  pub is : markAt p (set a t x) w ≡ n
+  pub was : passMark p a w ≡ m
+  pub is : passMark p (set a t x) w ≡ n
 
 -- O2: the task, the blocks above it, and what follows one of them really change
 abbrev pub Turns : Type 0
@@ -209,7 +209,7 @@ Turns =
     × Turned (pairs 6) (five 0 0 1 0 2) 2 2 4 0 4
 
 turned : (p a : List ℕ) (t x w m n : ℕ) → ltb t (size p) ≡ true → kind p t ≡ task → pass p a .number ≡ 0 → pass p (set a t x) .number ≡ 0 → InReach p t w →
-    markAt p a w ≡ m → markAt p (set a t x) w ≡ n → Turned p a t x w m n
+    passMark p a w ≡ m → passMark p (set a t x) w ≡ n → Turned p a t x w m n
 turned p a t x w m n l k za zb r was is = record {
   one-task = one-set p a t x (ltb-true t (size p) l) k za zb;
   in-reach = r;
@@ -232,7 +232,7 @@ unfolding parent
 next-pair k e = after 1 3 (up {w = 2} (omega arith) (self refl)) (follows (pairs k) 1 3 refl refl refl refl e) (up {w = 4} (omega arith) (self refl))
 
 pub turns : Turns
-unfolding markAt pass passOf numberOf rootMark settle settleBy settleIf close walk meet meetBy childSettled unwalked nothing endOf ending note skip childMark goodMark closes badPick badAnswer oneOrTwo goes goesBy kindNumber isKind kindOf size kindByte kind parent childrenBelow children keep upFrom
+unfolding passMark pass passOf numberOf rootMark settle settleBy settleIf close walk meet meetBy childSettled unwalked nothing endOf ending note skip childMark goodMark closes badPick badAnswer oneOrTwo goes goesBy kindNumber isKind kindOf size kindByte kind parent childrenBelow children keep upFrom
 turns = (
   turned P P9 1 2 1 3 4 refl refl refl refl (above (self refl)) refl refl,
   turned P P9 1 2 0 3 4 refl refl refl refl (above (up (omega arith) (self refl))) refl refl,

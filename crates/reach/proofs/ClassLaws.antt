@@ -10,7 +10,7 @@ use borrow.Author.Tests.{eqb-true, eqb-false}
 use native.Mathlib.Omega.{arith}
 use Rattle.lists.specs.Member.{In, here, there}
 use Rattle.lists.proofs.Logic.{cases, decided}
-use Rattle.lists.proofs.Members.{all-same, any-same}
+use Rattle.lists.proofs.Members.{in-none, all-same, any-same}
 use Rattle.plan.specs.Plan.{task, isKind, kind, parent, size}
 use Rattle.plan.specs.Check.{Accepted}
 use Rattle.plan.specs.Under.{Under, self, up}
@@ -18,18 +18,15 @@ use Rattle.plan.proofs.KindLaws.{same-kind}
 use Rattle.retention.specs.Record.{aboveWithin, nodesAbove, fell, countsAbove, countsAs, class}
 use Rattle.reach.specs.Claim.{ClassesReach}
 
-none-in : {u : ℕ} → In u [] → ⊥
-none-in = elim [ ]
-
 -- w is in the subtree of every node above it
 above-under : (p : List ℕ) (n w u : ℕ) → In u (aboveWithin n p w) → Under p u w
 unfolding aboveWithin
-above-under p zero w u i = absurd (none-in i)
+above-under p zero w u i = absurd (in-none i)
 above-under p (suc n) w u i = go (eqb w 0) refl i (λ j. above-under p n (parent p w) u j)
   where
     go : (b : Bool) → eqb w 0 ≡ b → In u (cond b [] (parent p w ∷ aboveWithin n p (parent p w))) →
         (In u (aboveWithin n p (parent p w)) → Under p u (parent p w)) → Under p u w
-    go true q j k = absurd (none-in j)
+    go true q j k = absurd (in-none j)
     go false q (here e) k = let ne : w ≡ 0 → ⊥ = eqb-false w 0 q in let l : 0 < w = omega arith in up l (self e)
     go false q (there j) k = let ne : w ≡ 0 → ⊥ = eqb-false w 0 q in let l : 0 < w = omega arith in up l (k j)
 

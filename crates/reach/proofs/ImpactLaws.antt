@@ -17,13 +17,13 @@ use Rattle.plan.proofs.KindLaws.{same-kind}
 use Rattle.pass.specs.Pass.{passResult, pass, passNumber, passInto}
 use Rattle.pass.specs.Values.{Ready}
 use Rattle.pass.proofs.PassLaws.{fits-ready, ready-fits, ready-into}
-use Rattle.pass_nodes.specs.Nodes.{markAt, Read}
+use Rattle.pass_nodes.specs.Nodes.{passMark, Read}
 use Rattle.pass_nodes.proofs.NodeLaws.{marks-length}
 use Rattle.pass_nodes.proofs.Main.{unread-free}
 use Rattle.reach.specs.Reach.{OneTask, InReach}
 use Rattle.reach.specs.Impact.{areMarks, newNumber, changeNumber, impactNumber, impactInto}
 use Rattle.reach.specs.Claim.{Asked, Numbers, ImpactRight, ImpactPasses, ImpactNumbers, ImpactUnread, ImpactNone}
-use Rattle.reach.proofs.ReachLaws.{one-set, one-reaches}
+use Rattle.reach.proofs.ReachLaws.{one-set, change-within-reach}
 
 -- a pass into m that leaves n: the plan and the lengths are right, the answers are accepted, and n are its marks
 pub record Taken (p a m n : List ℕ) : Type 0 where
@@ -156,7 +156,7 @@ impact-right p a m t x n q =
     }
   where
     go : Meets p a m t x → n ≡ pass p (set a t x) .marks → (w : ℕ) → w < size p → (getD n w 0 ≡ getD m w 0) ⊎ InReach p t w
-    go h e w s = unfold markAt in cases (one-reaches p (h .ready .accepted) a (set a t x) t (one-task p a m t x h) .reach w s)
+    go h e w s = unfold passMark in cases (change-within-reach p (h .ready .accepted) a (set a t x) t (one-task p a m t x h) .reach w s)
         (λ k. inl (ap (λ r. getD r w 0) e ∙ sym k ∙ sym (ap (λ r. getD r w 0) (h .marks)))) (λ k. inr k)
 
 pub impact-passes : ImpactPasses
@@ -216,11 +216,11 @@ impact-unread p a m t x l k old off byte =
     ∙ ap (passResult 0) (same-marks h free ∙ sym (h .left))
   where
     read : (v : ℕ) → v < size p → Read p a v → getD a v 0 ≡ getD (set a t x) v 0
-    read v s r = sym (getD-set-other a t v x 0 (λ e. r .reached (subst (λ w. markAt p a w ≡ 0) (sym e) off)))
+    read v s r = sym (getD-set-other a t v x 0 (λ e. r .reached (subst (λ w. passMark p a w ≡ 0) (sym e) off)))
 
-    same-marks : Taken p a m m → (pass p (set a t x) .number ≡ 0) × ((v : ℕ) → v < size p → markAt p (set a t x) v ≡ markAt p a v) →
+    same-marks : Taken p a m m → (pass p (set a t x) .number ≡ 0) × ((v : ℕ) → v < size p → passMark p (set a t x) v ≡ passMark p a v) →
         pass p (set a t x) .marks ≡ pass p a .marks
-    same-marks h f = unfold markAt in
+    same-marks h f = unfold passMark in
         let long = marks-length p (h .ready .accepted) (set a t x) (f .0) in
         ext-getD 0 (pass p (set a t x) .marks) (pass p a .marks) (long ∙ sym (marks-length p (h .ready .accepted) a (h .number))) (λ v s. f .1 v (omega arith))
 

@@ -1,11 +1,11 @@
 -- The theorems of this crate: the claims of specs/Claim.antt. Assumes nothing.
-use Rattle.reach.specs.Claim.{OneReaches, ClassesReach, ImpactRight, ImpactPasses, ImpactNumbers, ImpactUnread, ImpactNone}
+use Rattle.reach.specs.Claim.{ChangeWithinReach, ClassesReach, ImpactRight, ImpactPasses, ImpactNumbers, ImpactUnread, ImpactNone}
 use Rattle.reach.proofs.ReachLaws
 use Rattle.reach.proofs.ClassLaws
 use Rattle.reach.proofs.ImpactLaws
 
-pub one-reaches : OneReaches
-one-reaches = ReachLaws.one-reaches
+pub change-within-reach : ChangeWithinReach
+change-within-reach = ReachLaws.change-within-reach
 
 pub classes-reach : ClassesReach
 classes-reach = ClassLaws.classes-reach

@@ -19,13 +19,13 @@ use Rattle.plan.proofs.PlanLaws.{child-of, rising-children}
 use Rattle.plan.proofs.AcceptedLaws.{child-between, parent-child}
 use Rattle.plan.proofs.UnderLaws.{under-low, under-trans, child-under, under-below, apart, through, under-root, under?}
 use Rattle.pass.specs.Pass.{works, breaks, nothing, numberOf, pass}
-use Rattle.pass_nodes.specs.Nodes.{tallied, endBy, endAt, markAmong, markAt, Read}
+use Rattle.pass_nodes.specs.Nodes.{tallied, endBy, endAt, markAmong, passMark, Read}
 use Rattle.pass_nodes.specs.Claim.{SameUnder}
 use Rattle.pass_nodes.proofs.EndLaws.{clean-number}
 use Rattle.pass_nodes.proofs.ReachedLaws.{endOfMark, reached, node, child-on, child-off, gives-is, above-reached}
 use Rattle.pass_nodes.proofs.Main.{pass-by-nodes, ends-under, marks-below, same-elsewhere, unread-free}
 use Rattle.reach.specs.Reach.{OneTask, Follows, InReach, above, after}
-use Rattle.reach.specs.Claim.{OneReaches}
+use Rattle.reach.specs.Claim.{ChangeWithinReach}
 use Rattle.reach.proofs.AmongLaws.{among-before, inTurn, turn-kinds, among-free, xor-end}
 
 swapped : (p a b : List ℕ) (t : ℕ) → OneTask p a b t → OneTask p b a t
@@ -37,11 +37,11 @@ one-set p a t x l k za zb = record { within = l; is-task = k; same = λ w s ne. 
 
 module _ (p : List ℕ) (ok : Accepted p) (a b : List ℕ) (t : ℕ) (h : OneTask p a b t) where
   -- a task that is not reached changes nothing
-  unreached : markAt p a t ≡ 0 → (w : ℕ) → w < size p → markAt p a w ≡ markAt p b w
+  unreached : passMark p a t ≡ 0 → (w : ℕ) → w < size p → passMark p a w ≡ passMark p b w
   unreached z w s = sym (unread-free p ok a b (h .first) read .1 w s)
     where
       read : (v : ℕ) → v < size p → Read p a v → getD a v 0 ≡ getD b v 0
-      read v l r = h .same v l (λ e. r .reached (subst (λ y. markAt p a y ≡ 0) (sym e) z))
+      read v l r = h .same v l (λ e. r .reached (subst (λ y. passMark p a y ≡ 0) (sym e) z))
 
   -- lists that differ at t are the same in a subtree that t is not in
   same-aside : (d : ℕ) → (Under p d t → ⊥) → SameUnder p a b d
@@ -58,7 +58,7 @@ module _ (p : List ℕ) (ok : Accepted p) (a b : List ℕ) (t : ℕ) (h : OneTas
   ends-aside u y d j x i n = ends-under p ok a b d (child-between p ok u i .1) (same-aside d (λ z. apart p ok u d y i j n t z x))
 
   -- both lists reach the task, w is a child of u and not above the task
-  module _ (on-a : markAt p a t ≡ 0 → ⊥) (on-b : markAt p b t ≡ 0 → ⊥) (u w : ℕ) (i : In w (children p u)) (off : Under p w t → ⊥) where
+  module _ (on-a : passMark p a t ≡ 0 → ⊥) (on-b : passMark p b t ≡ 0 → ⊥) (u w : ℕ) (i : In w (children p u)) (off : Under p w t → ⊥) where
     u-in : u < size p
     u-in = let q = child-between p ok u i in omega arith
 
@@ -68,7 +68,7 @@ module _ (p : List ℕ) (ok : Accepted p) (a b : List ℕ) (t : ℕ) (h : OneTas
     -- what u gives to w
     module _ (x : Under p u t)
         (q : markAmong (kind p u) (getD a u 0) (endAt p a) (children p u) nothing w ≡ markAmong (kind p u) (getD a u 0) (endAt p b) (children p u) nothing w) where
-      same-given : markAt p a w ≡ markAt p b w
+      same-given : passMark p a w ≡ passMark p b w
       same-given = child-on p ok a (h .first) u w i (above-reached p ok a (h .first) u t (h .within) x on-a) ∙ gives-is p ok a (h .first) u w ∙ q
           ∙ ap (λ z. markAmong (kind p u) z (endAt p b) (children p u) nothing w) answer
           ∙ sym (gives-is p ok b (h .second) u w) ∙ sym (child-on p ok b (h .second) u w i (above-reached p ok b (h .second) u t (h .within) x on-b))
@@ -80,7 +80,7 @@ module _ (p : List ℕ) (ok : Accepted p) (a b : List ℕ) (t : ℕ) (h : OneTas
       apart-y : w ≡ y → ⊥
       apart-y e = off (subst (λ z. Under p z t) (sym e) x)
 
-      before : w < y → markAt p a w ≡ markAt p b w
+      before : w < y → passMark p a w ≡ passMark p b w
       before l = same-given above-u (among-before (kind p u) (getD a u 0) (endAt p a) (endAt p b) 0 (children p u) nothing w (rising-children p u) i
           (λ d k le. ends-aside u y d j x k (λ z. omega arith)))
 
@@ -90,7 +90,7 @@ module _ (p : List ℕ) (ok : Accepted p) (a b : List ℕ) (t : ℕ) (h : OneTas
       sound-b : tallied (kind p u) (getD b u 0) (endAt p b) (children p u) nothing .wrong ≡ 0
       sound-b = node p ok b (h .second) u u-in (reached p ok b (h .second) u u-in (above-reached p ok b (h .second) u t (h .within) above-u on-b)) .sound
 
-      free : inTurn (kind p u) ≡ false → markAt p a w ≡ markAt p b w
+      free : inTurn (kind p u) ≡ false → passMark p a w ≡ passMark p b w
       free f = same-given above-u (among-free (kind p u) f (getD a u 0) (endAt p a) (endAt p b) y (children p u) nothing nothing w refl sound-a
           (ap (λ z. tallied (kind p u) z (endAt p b) (children p u) nothing .wrong) answer ∙ sound-b) (λ d k n. ends-aside u y d j x k n) apart-y)
 
@@ -105,7 +105,7 @@ module _ (p : List ℕ) (ok : Accepted p) (a b : List ℕ) (t : ℕ) (h : OneTas
             in-turn = turn-kinds (kind p (parent p y)) (ap (λ z. inTurn (kind p z)) (cy .of) ∙ f);
           }
 
-      beside : (markAt p a w ≡ markAt p b w) ⊎ InReach p t w
+      beside : (passMark p a w ≡ passMark p b w) ⊎ InReach p t w
       beside = cases (decided (ltb w y))
           (λ l. inl (before (ltb-true w y l)))
           (λ l. cases (decided (inTurn (kind p u)))
@@ -113,11 +113,11 @@ module _ (p : List ℕ) (ok : Accepted p) (a b : List ℕ) (t : ℕ) (h : OneTas
           (λ f. inl (free f)))
 
     -- u is not above the task
-    aside : (Under p u t → ⊥) → (markAt p a u ≡ markAt p b u) ⊎ InReach p t u → (markAt p a w ≡ markAt p b w) ⊎ InReach p t w
+    aside : (Under p u t → ⊥) → (passMark p a u ≡ passMark p b u) ⊎ InReach p t u → (passMark p a w ≡ passMark p b w) ⊎ InReach p t w
     aside n r = cases r
-        (λ e. inl (cases (decided (eqb (markAt p a u) 0))
-        (λ q. let o = eqb-true (markAt p a u) 0 q in child-off p ok a (h .first) u w i o ∙ sym (child-off p ok b (h .second) u w i (sym e ∙ o)))
-        (λ q. let o = eqb-false (markAt p a u) 0 q in
+        (λ e. inl (cases (decided (eqb (passMark p a u) 0))
+        (λ q. let o = eqb-true (passMark p a u) 0 q in child-off p ok a (h .first) u w i o ∙ sym (child-off p ok b (h .second) u w i (sym e ∙ o)))
+        (λ q. let o = eqb-false (passMark p a u) 0 q in
         marks-below p ok a b u (same-aside u n) (h .first) (h .second) o (λ z. o (e ∙ z)) w (child-between p ok u i .1) (under-below p u w lower (child-under p u w i)))))
         (λ s. inr (deeper s))
       where
@@ -128,8 +128,8 @@ module _ (p : List ℕ) (ok : Accepted p) (a b : List ℕ) (t : ℕ) (h : OneTas
         deeper (above x) = absurd (n x)
         deeper (after v s x f un) = after v s x f (under-trans p s u w un (child-under p u w i))
 
-  module _ (on-a : markAt p a t ≡ 0 → ⊥) (on-b : markAt p b t ≡ 0 → ⊥) where
-    reach-by : (n w : ℕ) → w < n → w < size p → (markAt p a w ≡ markAt p b w) ⊎ InReach p t w
+  module _ (on-a : passMark p a t ≡ 0 → ⊥) (on-b : passMark p b t ≡ 0 → ⊥) where
+    reach-by : (n w : ℕ) → w < n → w < size p → (passMark p a w ≡ passMark p b w) ⊎ InReach p t w
     reach-by zero w l s = absurd (omega arith)
     reach-by (suc n) w l s = cases (under? p ok (suc t) w t (omega arith) (h .within)) (λ x. inr (above x))
         (λ off. cases (decided (eqb w 0))
@@ -147,7 +147,7 @@ unfolding kindNumber
 xor-task e = let z : _≡_ {A = ℕ} 5 1 = ap kindNumber e in omega arith
 
 -- a reached xor ends as its answer says
-xor-says : (p : List ℕ) → Accepted p → (a : List ℕ) → pass p a .number ≡ 0 → (u : ℕ) → u < size p → kind p u ≡ xor → (markAt p a u ≡ 0 → ⊥) →
+xor-says : (p : List ℕ) → Accepted p → (a : List ℕ) → pass p a .number ≡ 0 → (u : ℕ) → u < size p → kind p u ≡ xor → (passMark p a u ≡ 0 → ⊥) →
     endAt p a u ≡ cond (eqb (getD a u 0) 0) breaks works
 xor-says p ok a z u l k on =
     let e = pass-by-nodes p ok a .ends u l ∙ ap (λ j. endBy j (getD a u 0) (endAt p a) (children p u)) k in
@@ -155,13 +155,13 @@ xor-says p ok a z u l k on =
 
 module _ (p : List ℕ) (ok : Accepted p) (a b : List ℕ) (t : ℕ) (h : OneTask p a b t) where
   -- the task is reached by both lists, or nothing differs
-  met : ((markAt p a t ≡ 0 → ⊥) × (markAt p b t ≡ 0 → ⊥)) ⊎ ((w : ℕ) → w < size p → markAt p a w ≡ markAt p b w)
-  met = cases (decided (eqb (markAt p a t) 0)) (λ q. inr (unreached p ok a b t h (eqb-true _ _ q)))
-      (λ q. cases (decided (eqb (markAt p b t) 0))
+  met : ((passMark p a t ≡ 0 → ⊥) × (passMark p b t ≡ 0 → ⊥)) ⊎ ((w : ℕ) → w < size p → passMark p a w ≡ passMark p b w)
+  met = cases (decided (eqb (passMark p a t) 0)) (λ q. inr (unreached p ok a b t h (eqb-true _ _ q)))
+      (λ q. cases (decided (eqb (passMark p b t) 0))
       (λ r. inr (λ w s. sym (unreached p ok b a t (swapped p a b t h) (eqb-true _ _ r) w s)))
       (λ r. inl (eqb-false _ _ q, eqb-false _ _ r)))
 
-  reach : (w : ℕ) → w < size p → (markAt p a w ≡ markAt p b w) ⊎ InReach p t w
+  reach : (w : ℕ) → w < size p → (passMark p a w ≡ passMark p b w) ⊎ InReach p t w
   reach w s = cases met (λ m. reach-by p ok a b t h (m .0) (m .1) (suc w) w (omega arith) s) (λ e. inl (e w s))
 
   -- a node in whose subtree the task is ends alike
@@ -169,10 +169,10 @@ module _ (p : List ℕ) (ok : Accepted p) (a b : List ℕ) (t : ℕ) (h : OneTas
     low : u < size p
     low = let l = under-low p ok u t (h .within) x in omega (arith, h .within)
 
-    beside-alike : endAt p a u ≡ endAt p b u → (w : ℕ) → w < size p → (Below p u w → ⊥) → markAt p a w ≡ markAt p b w
+    beside-alike : endAt p a u ≡ endAt p b u → (w : ℕ) → w < size p → (Below p u w → ⊥) → passMark p a w ≡ passMark p b w
     beside-alike e = same-elsewhere p ok a b u (λ w s n. h .same w s (λ q. n (subst (Under p u) (sym q) x))) e .1 (h .first)
 
-    outside : markAt p a u ≡ markAt p b u → (w : ℕ) → w < size p → (Below p u w → ⊥) → markAt p a w ≡ markAt p b w
+    outside : passMark p a u ≡ passMark p b u → (w : ℕ) → w < size p → (Below p u w → ⊥) → passMark p a w ≡ passMark p b w
     outside e w s n = cases met
         (λ m. let oa = above-reached p ok a (h .first) u t (h .within) x (m .0) in
         let ob = above-reached p ok b (h .second) u t (h .within) x (m .1) in
@@ -186,10 +186,10 @@ module _ (p : List ℕ) (ok : Accepted p) (a b : List ℕ) (t : ℕ) (h : OneTas
         let k = under-low p ok u (parent p w) (omega (arith, low)) (z .1) in
         omega arith
 
-    above-same : markAt p a u ≡ markAt p b u → (w : ℕ) → Under p w u → markAt p a w ≡ markAt p b w
+    above-same : passMark p a u ≡ passMark p b u → (w : ℕ) → Under p w u → passMark p a w ≡ passMark p b w
     above-same e w y = let l = under-low p ok w u low y in outside e w (omega (arith, low)) (not-below w y)
 
-    xors : kind p u ≡ xor → markAt p a u ≡ markAt p b u
+    xors : kind p u ≡ xor → passMark p a u ≡ passMark p b u
     xors k = cases met
         (λ m. beside-alike
         (xor-says p ok a (h .first) u low k (above-reached p ok a (h .first) u t (h .within) x (m .0))
@@ -200,5 +200,5 @@ module _ (p : List ℕ) (ok : Accepted p) (a b : List ℕ) (t : ℕ) (h : OneTas
         xor-no-task : kind p u ≡ xor → u ≡ t → ⊥
         xor-no-task k e = xor-task (sym k ∙ ap (kind p) e ∙ h .is-task)
 
-pub one-reaches : OneReaches
-one-reaches p ok a b t h = record { reach = reach p ok a b t h; outside = outside p ok a b t h; above = above-same p ok a b t h; xors = xors p ok a b t h }
+pub change-within-reach : ChangeWithinReach
+change-within-reach p ok a b t h = record { reach = reach p ok a b t h; outside = outside p ok a b t h; above = above-same p ok a b t h; xors = xors p ok a b t h }

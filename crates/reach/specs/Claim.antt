@@ -8,25 +8,25 @@ use Rattle.plan.specs.Plan.{task, xor, kind, size}
 use Rattle.plan.specs.Check.{Accepted}
 use Rattle.plan.specs.Under.{Under, Below}
 use Rattle.pass.specs.Pass.{passResult, pass, passNumber, passInto}
-use Rattle.pass_nodes.specs.Nodes.{markAt}
+use Rattle.pass_nodes.specs.Nodes.{passMark}
 use Rattle.retention.specs.Record.{class}
 use Rattle.reach.specs.Reach.{OneTask, InReach}
 use Rattle.reach.specs.Impact.{impactNumber, impactInto}
 
 -- O2 to O4: what two lists of answers that differ at the task t do to the marks
-pub record Reaches (p a b : List ℕ) (t : ℕ) : Type 0 where
+pub record WithinReach (p a b : List ℕ) (t : ℕ) : Type 0 where
   -- O2: a mark differs in the task's reach only
-  pub reach : (w : ℕ) → w < size p → (markAt p a w ≡ markAt p b w) ⊎ InReach p t w
+  pub reach : (w : ℕ) → w < size p → (passMark p a w ≡ passMark p b w) ⊎ InReach p t w
   -- O3: where the task or a block above it keeps its mark, so does all that is not below it
-  pub outside : (u : ℕ) → Under p u t → markAt p a u ≡ markAt p b u → (w : ℕ) → w < size p → (Below p u w → ⊥) → markAt p a w ≡ markAt p b w
+  pub outside : (u : ℕ) → Under p u t → passMark p a u ≡ passMark p b u → (w : ℕ) → w < size p → (Below p u w → ⊥) → passMark p a w ≡ passMark p b w
   -- O3: all blocks above among it
-  pub above : (u : ℕ) → Under p u t → markAt p a u ≡ markAt p b u → (w : ℕ) → Under p w u → markAt p a w ≡ markAt p b w
+  pub above : (u : ℕ) → Under p u t → passMark p a u ≡ passMark p b u → (w : ℕ) → Under p w u → passMark p a w ≡ passMark p b w
   -- O4: an xor above the task keeps its mark
-  pub xors : (u : ℕ) → Under p u t → kind p u ≡ xor → markAt p a u ≡ markAt p b u
+  pub xors : (u : ℕ) → Under p u t → kind p u ≡ xor → passMark p a u ≡ passMark p b u
 
 -- MAIN CLAIM (O1 to O4)
-abbrev pub OneReaches : Type 0
-OneReaches = (p : List ℕ) → Accepted p → (a b : List ℕ) (t : ℕ) → OneTask p a b t → Reaches p a b t
+abbrev pub ChangeWithinReach : Type 0
+ChangeWithinReach = (p : List ℕ) → Accepted p → (a b : List ℕ) (t : ℕ) → OneTask p a b t → WithinReach p a b t
 
 -- O5: by one table, and for any marks m and n, a class differs only at a task, where its mark differs or that of a block above it
 abbrev pub ClassesReach : Type 0
@@ -80,7 +80,7 @@ ImpactNumbers = (p a m : List ℕ) (t x : ℕ) → Numbers p a m t x
 
 -- O6: any byte is free at a task that the pass does not reach, and changes nothing
 abbrev pub ImpactUnread : Type 0
-ImpactUnread = (p a m : List ℕ) (t x : ℕ) → t < size p → kind p t ≡ task → passInto p a m ≡ passResult 0 m → markAt p a t ≡ 0 → x ≤ 255 →
+ImpactUnread = (p a m : List ℕ) (t x : ℕ) → t < size p → kind p t ≡ task → passInto p a m ≡ passResult 0 m → passMark p a t ≡ 0 → x ≤ 255 →
     impactInto p a m t x ≡ passResult 0 m
 
 -- O8: with the answer that is there already, the call passes just where the pass does and leaves these marks, and it leaves them too

@@ -13,6 +13,7 @@ use native.Mathlib.Omega.{arith}
 use Rattle.lists.specs.Seq.{any}
 use Rattle.lists.specs.Member.{In}
 use Rattle.lists.proofs.Logic.{cases, clash, decided}
+use Rattle.lists.proofs.Members.{in-none}
 use Rattle.lists.proofs.Points.{in-snoc, any-snoc}
 use Rattle.plan.specs.Plan.{xor, size, kind, parent, children}
 use Rattle.plan.specs.Check.{Accepted}
@@ -83,11 +84,8 @@ module _ (p : List ℕ) (ok : Accepted p) (s : Central) (good : Good p s) where
     chosen = λ k. refl;
     long = l;
     kept = λ w. inl refl;
-    wrote = λ d i. absurd (none i);
+    wrote = λ d i. absurd (in-none i);
   }
-    where
-      none : {d : ℕ} → In d [] → ⊥
-      none = elim [ ]
 
   module _ (v c : ℕ) (ds m : List ℕ) (t : Walked) (i : Tallied p s v ds m t) where
     -- c was not reached
