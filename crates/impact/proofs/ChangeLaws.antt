@@ -4,7 +4,7 @@ use mathlib.Core.Bool.{Bool, true, false, cond, not, _&&_}
 use mathlib.Core.List.{List, _++_, append-nil}
 use Prim.Native.Nat.{ℕ, _≤_, _<_}
 use native.Mathlib.Omega.{arith}
-use lib.Dec.{eqb, ltb, leb}
+use lib.Dec.{eqb}
 use lib.ListN.{length, getD, take, drop, set, replicate, length-set, drop-of-length-le}
 use lib.Seq.{take-length}
 use borrow.Author.Tests.{eqb-true, eqb-false, ne-eqb, lt-ltb, le-ltb, le-leb, lt-leb}
@@ -14,7 +14,7 @@ use Rattle.lists.proofs.Logic.{cases, decided}
 use Rattle.lists.proofs.Lent.{fresh-length}
 use Rattle.lists.proofs.Parts.{Back, back-is}
 use Rattle.plan.specs.Plan.{size, task, kind, kindOf, kindByte, isKind, kindNumber}
-use Rattle.plan.specs.Check.{Accepted, fitNumber}
+use Rattle.plan.specs.Check.{fitNumber}
 use Rattle.plan.proofs.KindLaws.{kind-task}
 use Rattle.pass.specs.Pass.{PassResult, passResult, pass, passNumber, passInto}
 use Rattle.pass.specs.Values.{Ready}
@@ -57,14 +57,14 @@ module _ {p a : List ℕ} {t : ℕ} (r : Lent p a t) (n : ℕ) (e : n ≡ size p
 
 -- what a pass that was ready answers and leaves
 module _ (p a m : List ℕ) (r : Ready p a m 0) (k : ℕ) (n : List ℕ) (q : passInto p a m ≡ passResult k n) where
-  pub into-number : k ≡ pass p a .number
+  into-number : k ≡ pass p a .number
   into-number = sym (ap (λ z. z .number) (sym (ready-into p a m r) ∙ q)) ∙ go (eqb (pass p a .number) 0)
     where
       go : (b : Bool) → cond (not b) (passResult (pass p a .number) m) (pass p a) .number ≡ pass p a .number
       go true = refl
       go false = refl
 
-  pub into-marks : pass p a .number ≡ 0 → n ≡ pass p a .marks
+  into-marks : pass p a .number ≡ 0 → n ≡ pass p a .marks
   into-marks z = sym (ap (λ z. z .marks) (sym (ready-into p a m r) ∙ q)) ∙ rw z
 
 -- the number of the new answers, by a pass into any marks

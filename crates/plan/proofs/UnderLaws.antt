@@ -18,7 +18,7 @@ pub under-trans : (p : List ℕ) (u v w : ℕ) → Under p u v → Under p v w �
 under-trans p u v w h (self e) = subst (Under p u) e h
 under-trans p u v w h (up l b) = up l (under-trans p u v (parent p w) h b)
 
-pub child-below : (p : List ℕ) (v c : ℕ) → In c (children p v) → Below p v c
+child-below : (p : List ℕ) (v c : ℕ) → In c (children p v) → Below p v c
 child-below p v c i = let h = child-of p v i in (h .low, self (sym (h .of)))
 
 pub child-under : (p : List ℕ) (v c : ℕ) → In c (children p v) → Under p v c

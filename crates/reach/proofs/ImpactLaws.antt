@@ -26,13 +26,13 @@ use Rattle.reach.specs.Claim.{Asked, Numbers, ImpactRight, ImpactPasses,
 use Rattle.reach.proofs.ReachLaws.{one-set, change-within-reach}
 
 -- a pass into m that leaves n: the plan and the lengths are right, the answers are accepted, and n are its marks
-pub record Taken (p a m n : List ℕ) : Type 0 where
-  pub ready : Ready p a m 0
-  pub number : pass p a .number ≡ 0
-  pub left : n ≡ pass p a .marks
+record Taken (p a m n : List ℕ) : Type 0 where
+  ready : Ready p a m 0
+  number : pass p a .number ≡ 0
+  left : n ≡ pass p a .marks
 
 module _ (p a m : List ℕ) where
-  pub taken : (n : List ℕ) → passInto p a m ≡ passResult 0 n → Taken p a m n
+  taken : (n : List ℕ) → passInto p a m ≡ passResult 0 n → Taken p a m n
   unfolding passInto
   taken n h = cases (decided (eqb (passNumber p a m) 0))
       (λ f. let k : cond (not (eqb (pass p a .number) 0)) (passResult (pass p a .number) m) (pass p a) ≡ passResult 0 n = rw f at h in
@@ -41,32 +41,32 @@ module _ (p a m : List ℕ) where
       (λ e. absurd (eqb-false (pass p a .number) 0 e (ap (λ r. r .number) (rw e at k)))))
       (λ f. absurd (eqb-false (passNumber p a m) 0 f (ap (λ r. r .number) (rw f at h))))
 
-  pub takes : (n : List ℕ) → Taken p a m n → passInto p a m ≡ passResult 0 n
+  takes : (n : List ℕ) → Taken p a m n → passInto p a m ≡ passResult 0 n
   takes n t = ready-into p a m (t .ready) ∙ rw (t .number) (ap (passResult 0) (sym (t .left)))
 
 -- m are the pass's marks, byte by byte
 module _ (p a m : List ℕ) (long : length m ≡ size p) (z : Accepted p) (ok : pass p a .number ≡ 0) where
-  pub marks-are : areMarks p a m ≡ true → m ≡ pass p a .marks
+  marks-are : areMarks p a m ≡ true → m ≡ pass p a .marks
   unfolding areMarks
   marks-are h = ext-getD 0 m (pass p a .marks) (long ∙ sym (marks-length p z a ok))
       (λ v l. eqb-true _ _ (below-at (λ v. eqb (getD m v 0) (getD (pass p a .marks) v 0)) (size p) v h (omega arith)))
 
-pub are-marks : (p a m : List ℕ) → m ≡ pass p a .marks → areMarks p a m ≡ true
+are-marks : (p a m : List ℕ) → m ≡ pass p a .marks → areMarks p a m ≡ true
 unfolding areMarks
 are-marks p a m e = below-by (λ v. eqb (getD m v 0) (getD (pass p a .marks) v 0)) (size p) (λ v l. eq-eqb _ _ (ap (λ r. getD r v 0) e))
 
 -- what O6 asks for
-pub record Meets (p a m : List ℕ) (t x : ℕ) : Type 0 where
-  pub ready : Ready p a m 0
-  pub node : t < size p
-  pub is-task : kind p t ≡ task
-  pub old : pass p a .number ≡ 0
-  pub byte : x ≤ 255
-  pub new : pass p (set a t x) .number ≡ 0
-  pub marks : m ≡ pass p a .marks
+record Meets (p a m : List ℕ) (t x : ℕ) : Type 0 where
+  ready : Ready p a m 0
+  node : t < size p
+  is-task : kind p t ≡ task
+  old : pass p a .number ≡ 0
+  byte : x ≤ 255
+  new : pass p (set a t x) .number ≡ 0
+  marks : m ≡ pass p a .marks
 
 module _ (p a m : List ℕ) (t x : ℕ) where
-  pub meets : impactNumber p a m t x ≡ 0 → Meets p a m t x
+  meets : impactNumber p a m t x ≡ 0 → Meets p a m t x
   unfolding impactNumber changeNumber newNumber
   meets h =
       let s = number-passed (passNumber p a m) _ h in
@@ -91,7 +91,7 @@ module _ (p a m : List ℕ) (t x : ℕ) where
       byte true e h = (e, h)
       byte false e h = absurd (omega arith)
 
-  pub met : Meets p a m t x → impactNumber p a m t x ≡ 0
+  met : Meets p a m t x → impactNumber p a m t x ≡ 0
   unfolding impactNumber changeNumber newNumber isKind kindNumber
   met h = rw (
     ready-fits p a m (h .ready),
@@ -103,18 +103,18 @@ module _ (p a m : List ℕ) (t x : ℕ) where
     are-marks p a m (h .marks),
   )
 
-  pub passes : Meets p a m t x → impactInto p a m t x ≡ passResult 0 (pass p (set a t x) .marks)
+  passes : Meets p a m t x → impactInto p a m t x ≡ passResult 0 (pass p (set a t x) .marks)
   unfolding impactInto
   passes h = rw (met h)
 
-  pub passed : (n : List ℕ) → impactInto p a m t x ≡ passResult 0 n → Meets p a m t x × (n ≡ pass p (set a t x) .marks)
+  passed : (n : List ℕ) → impactInto p a m t x ≡ passResult 0 n → Meets p a m t x × (n ≡ pass p (set a t x) .marks)
   unfolding impactInto
   passed n h = cases (decided (eqb (impactNumber p a m t x) 0))
       (λ e. (meets (eqb-true _ _ e), sym (ap (λ r. r .marks) (rw e at h))))
       (λ e. absurd (eqb-false (impactNumber p a m t x) 0 e (ap (λ r. r .number) (rw e at h))))
 
   module _ (h : Meets p a m t x) where
-    pub one-task : OneTask p a (set a t x) t
+    one-task : OneTask p a (set a t x) t
     one-task = one-set p a t x (h .node) (h .is-task) (h .old) (h .new)
 
     new-ready : (n : List ℕ) → length n ≡ size p → Ready p (set a t x) n 0

@@ -1,5 +1,5 @@
 -- MAIN CLAIM of specs/Kept.antt. Assumes nothing.
-use Rattle.rewrite.specs.Kept.{Kept, RewriteKeeps}
+use Rattle.rewrite.specs.Kept.{RewriteKeeps}
 use Rattle.rewrite.proofs.PlanLaws.{check-kept}
 use Rattle.rewrite.proofs.GuardLaws.{guards-kept}
 use Rattle.rewrite.proofs.PassLaws.{pass-kept}

@@ -6,7 +6,7 @@ use Prim.Native.Nat.{ℕ, zero, suc}
 use lib.Dec.{eqb}
 use lib.ListN.{getD, replicate}
 use Rattle.plan.specs.Plan.{Kind, task, serial, and, or, xor, contingency, conditional, waiting, kindNumber, isKind, size, kind, children}
-use Rattle.pass.specs.Pass.{Outcome, works, breaks, fault, Tally, goesBy, goes, badAnswer, badPick, closes, goodMark, childMark, endOf, Settled, Walked, unwalked, childSettled, meetBy, meet, walk, close, settleIf, settleBy, settle, passOf, pass}
+use Rattle.pass.specs.Pass.{Outcome, works, breaks, fault, Tally, goesBy, goes, badAnswer, badPick, closes, goodMark, childMark, endOf, Settled, Walked, unwalked, childSettled, meetBy, meet, walk, close, settleIf, settleBy, settle, pass}
 use Rattle.rewrite.specs.Rewrite.{rewritten}
 use Rattle.rewrite.proofs.PlanLaws.{renewed, size-kept, kind-at, children-at}
 

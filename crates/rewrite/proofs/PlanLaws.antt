@@ -7,7 +7,7 @@ use native.Mathlib.Omega.{arith}
 use lib.Dec.{eqb, leb, ltb}
 use lib.ListN.{length, getD, List·getD-eq-default}
 use borrow.Author.Tests.{eq-eqb, ne-eqb, eqb-true, ltb-true, ltb-false}
-use Rattle.lists.specs.Seq.{keep, upFrom, allBelow, table}
+use Rattle.lists.specs.Seq.{keep, upFrom, allBelow}
 use Rattle.lists.proofs.Logic.{cases, decided}
 use Rattle.lists.proofs.Table.{table-length, table-at}
 use Rattle.plan.specs.Plan.{Kind, task, serial, and, or, xor, contingency, conditional, waiting, kindNumber, isKind, kindOf, size, kindByte, kind, parent, childrenBelow, children, childCount, others, above, inXor, depthWithin, depth}

@@ -13,7 +13,7 @@ use Rattle.lists.specs.Member.{In, here, there, Rising, next}
 use Rattle.lists.proofs.Logic.{cases, same-bool, clash, decided}
 use Rattle.lists.proofs.Members.{all-at, all-by, rising-above}
 use Rattle.lists.proofs.Points.{in-earlier, earlier-in, last-member, last-greatest}
-use Rattle.plan.specs.Plan.{Kind, task, serial, and, or, xor, contingency, conditional, waiting, kindNumber, isKind, kindOf, size, kindByte, kind, parent, children, above, inXor}
+use Rattle.plan.specs.Plan.{Kind, task, xor, kindNumber, isKind, size, kind, parent, children, above, inXor}
 use Rattle.plan.proofs.PlanLaws.{Child, child-of}
 use Rattle.plan.proofs.KindLaws.{same-kind}
 use Rattle.guard.specs.Guard.{beforeIn, isFirst}

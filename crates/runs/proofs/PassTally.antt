@@ -4,7 +4,7 @@ use mathlib.Core.Path.{_≡_, refl, sym, _∙_, subst}
 use mathlib.Core.Bool.{Bool, true, false, _||_, or-false, or-true}
 use mathlib.Core.List.{List, [], _∷_, _++_}
 use mathlib.Core.Logic.{_⊎_, inl, inr}
-use Prim.Native.Nat.{ℕ, zero, suc, _<_}
+use Prim.Native.Nat.{ℕ, suc, _<_}
 use lib.Dec.{eqb}
 use lib.ListN.{getD, length, length-append, length-set, set}
 use lib.Seq.{getD-set-other, getD-set-same}
@@ -15,7 +15,7 @@ use Rattle.lists.specs.Member.{In}
 use Rattle.lists.proofs.Logic.{cases, clash, decided}
 use Rattle.lists.proofs.Members.{in-none}
 use Rattle.lists.proofs.Points.{in-snoc, any-snoc}
-use Rattle.plan.specs.Plan.{xor, size, kind, parent, children}
+use Rattle.plan.specs.Plan.{xor, size, kind, parent}
 use Rattle.plan.specs.Check.{Accepted}
 use Rattle.plan.specs.Under.{Under, self, up, Below}
 use Rattle.plan.proofs.AcceptedLaws.{parent-child}

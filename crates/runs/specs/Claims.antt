@@ -10,9 +10,9 @@ use Rattle.plan.specs.Plan.{size}
 use Rattle.plan.specs.Check.{Accepted}
 use Rattle.event.specs.Event.{Event, applies, among}
 use Rattle.guard.specs.Guard.{guard, holds, barred}
-use Rattle.central.specs.Mark.{Mark, committed, failed, turned-down, markNumber}
+use Rattle.central.specs.Mark.{committed, failed, turned-down, markNumber}
 use Rattle.central.specs.Central.{Central, fresh, marked, started, allowed, isRun, reaches}
-use Rattle.pass.specs.Pass.{PassResult, pass}
+use Rattle.pass.specs.Pass.{pass}
 use Rattle.runs.specs.Agree.{Bytes, Agrees}
 
 -- C, D, E, I11 (demand 2): after every run, where just the run's events are heard, an event that applies is not barred and its guard holds if

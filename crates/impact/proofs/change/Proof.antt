@@ -1,5 +1,4 @@
 -- What the pass over the answers told, case by case. Assumes nothing.
-use mathlib.Core.Path.{_≡_}
 use native.Mathlib.Omega.{arith}
 use Rattle.impact.proofs.ChangeLaws.{change-old, change-wide, change-same, change-later, change-marks}
 use borrow.Author.Needs.{needs}

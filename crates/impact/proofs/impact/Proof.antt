@@ -1,5 +1,5 @@
 -- The tests in order, and then the change. Assumes nothing.
-use mathlib.Core.Path.{_≡_, _∙_}
+use mathlib.Core.Path.{_∙_}
 use native.Mathlib.Omega.{arith}
 use Rattle.plan.specs.Plan.{kindByte}
 use Rattle.pass.specs.Values.{Ready}

@@ -1,5 +1,4 @@
 -- The marks go into a local array and are forgotten. Assumes nothing.
-use mathlib.Core.Path.{_≡_, sym, _∙_, ap}
 use Rattle.impact.proofs.ChangeLaws.{scratch-length, scratch-size, new-number-is}
 use borrow.Author.Needs.{needs}
 use Rattle.impact.proofs.new_number.Statement.{statement}

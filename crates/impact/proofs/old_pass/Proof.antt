@@ -1,5 +1,5 @@
 -- The pass leaves its marks in a local array's front, which is compared with the marks handed in. Assumes nothing.
-use mathlib.Core.Path.{_≡_, sym, _∙_}
+use mathlib.Core.Path.{sym, _∙_}
 use native.Mathlib.Omega.{arith}
 use lib.ListN.{replicate}
 use Rattle.lists.proofs.Parts.{Back, back-room, back-length}

@@ -1,9 +1,8 @@
 -- The new answers stand in a local array, whose front is lent twice. Assumes nothing.
-use mathlib.Core.Path.{_≡_, sym, _∙_, ap}
+use mathlib.Core.Path.{sym, _∙_}
 use native.Mathlib.Omega.{arith}
-use lib.ListN.{set, replicate}
+use lib.ListN.{replicate}
 use Rattle.lists.proofs.Parts.{Back, back-room, back-length}
-use Rattle.pass.specs.Pass.{passInto}
 use Rattle.impact.proofs.ChangeLaws.{scratch-length, scratch-size, set-back, new-ready, lent-again}
 use borrow.Author.Needs.{needs}
 use Rattle.impact.proofs.pass_new.Statement.{statement}

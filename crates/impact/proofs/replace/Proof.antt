@@ -1,6 +1,4 @@
 -- The copy, and one byte in it. Assumes nothing.
-use mathlib.Core.Path.{_≡_, _∙_, ap}
-use lib.ListN.{set}
 use Rattle.impact.proofs.ChangeLaws.{replaced}
 use borrow.Author.Needs.{needs}
 use Rattle.impact.proofs.replace.Statement.{statement}

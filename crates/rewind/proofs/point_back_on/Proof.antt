@@ -1,9 +1,7 @@
 -- The name's slot, and the way back to its place. Assumes nothing.
-use Prim.Native.Nat.{_≤_, _<_}
+use Prim.Native.Nat.{_<_}
 use native.Mathlib.Omega.{arith}
-use lib.ListN.{length}
 use Rattle.points.proofs.NamingLaws.{fit-long}
-use Rattle.rewind.specs.Arrays.{entriesOf}
 use Rattle.rewind.proofs.ArrayLaws.{array-within}
 use Rattle.rewind.proofs.CallLaws.{word-some, place-within, back-unknown, back-way}
 use borrow.Author.Needs.{needs}

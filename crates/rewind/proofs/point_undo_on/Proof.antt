@@ -1,9 +1,6 @@
 -- No step is left, or it is the way back to the place before the last one. Assumes nothing.
-use Prim.Native.Nat.{_≤_}
 use native.Mathlib.Omega.{arith}
-use lib.ListN.{length}
 use Rattle.points.proofs.NamingLaws.{fit-long}
-use Rattle.rewind.specs.Arrays.{entriesOf}
 use Rattle.rewind.proofs.ArrayLaws.{array-within}
 use Rattle.rewind.proofs.CallLaws.{undo-empty, undo-way}
 use borrow.Author.Needs.{needs}

@@ -1,8 +1,5 @@
 -- A look at the entries down to the place, and only then the clearing. Assumes nothing.
 use mathlib.Core.Path.{sym, _∙_}
-use Prim.Native.Nat.{_≤_}
-use lib.ListN.{length}
-use Rattle.rewind.specs.Arrays.{entriesOf}
 use Rattle.rewind.proofs.ArrayLaws.{array-within}
 use Rattle.rewind.proofs.CallLaws.{way-refused, way-done}
 use borrow.Author.Needs.{needs}
