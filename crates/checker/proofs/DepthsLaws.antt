@@ -1,16 +1,17 @@
 -- What a call of the second form comes to, by the test that fails first. Assumes nothing.
 use mathlib.Core.Path.{_≡_, refl, sym, _∙_, ap}
 use mathlib.Core.Bool.{Bool, true, false, cond, not, _&&_}
-use mathlib.Core.List.{List, [], _++_, append-nil}
+use mathlib.Core.List.{List, _++_}
 use mathlib.Core.Logic.{_⊎_, inl, inr}
 use Prim.Native.Nat.{ℕ, _≤_}
 use native.Mathlib.Omega.{arith}
 use lib.Dec.{eqb}
-use lib.ListN.{length, take, drop, replicate, length-append, drop-of-length-le}
-use lib.Seq.{take-at, take-length}
+use lib.ListN.{length, take, drop, replicate, length-append}
+use lib.Seq.{take-at}
 use borrow.Author.Tests.{eqb-true, eq-eqb, ne-eqb}
 use Rattle.lists.specs.Seq.{table}
 use Rattle.lists.proofs.Logic.{decided}
+use Rattle.lists.proofs.Parts.{copied-over}
 use Rattle.lists.proofs.Table.{table-length}
 use Rattle.plan.specs.Plan.{size, depth}
 use Rattle.plan.specs.Check.{checkNumber, fitNumber}
@@ -61,13 +62,7 @@ module _ (p d : List ℕ) (k : ℕ) (told : k ≡ checkNumber p) where
 
         pub depths-done : (d′ : List ℕ) → d′ ≡ take (length (take n s)) (take n s) ++ drop (length (take n s)) d → depthsOf p d ≡ checked d′ 0
         unfolding depthsOf
-        depths-done d′ f = rw (accepted-is, eq-eqb (length d) n long, same)
-          where
-            over : drop (length (take n s)) d ≡ []
-            over = drop-of-length-le d {i = length (take n s)} (omega (arith, front-length))
-
-            same : d′ ≡ table (depth p) (size p)
-            same = f ∙ rw (over, take-length (take n s)) (append-nil (take n s) ∙ front-is)
+        depths-done d′ f = rw (accepted-is, eq-eqb (length d) n long, f ∙ copied-over (take n s) d (sym front-length ∙ sym long) ∙ front-is)
 
 -- the tests in one line
 fit-is : (p : List ℕ) (b long : Bool) → eqb (checkNumber p) 0 ≡ b → fitNumber p long ≡ cond (eqb (checkNumber p) 0 && not long) 7 (checkNumber p)

@@ -1,7 +1,7 @@
 -- Laws of the nodes that a guard names: whose children they are, when it names any, and that its shape over them gives the guard. Assumes
 -- nothing.
 use mathlib.Core.Path.{_≡_, refl, sym, ap, _∙_}
-use mathlib.Core.Bool.{Bool, true, false, cond, _&&_, _||_, not, and-false, false≢true}
+use mathlib.Core.Bool.{Bool, true, false, cond, _&&_, _||_, not, false≢true}
 use mathlib.Core.Logic.{⊎-elim}
 use mathlib.Core.List.{List, []}
 use Prim.Native.Nat.{ℕ, zero, suc, _≤_}
@@ -13,7 +13,7 @@ use Rattle.lists.specs.Seq.{lastOr}
 use Rattle.lists.proofs.Logic.{cases, decided, clash, and-left, and-right, and-join}
 use Rattle.plan.specs.Plan.{Kind, task, serial, and, or, xor, contingency, conditional, waiting, kindNumber, isKind, kindOf, kindByte, kind, parent, children, above, aboveByte, inXor}
 use Rattle.plan.specs.Check.{Accepted}
-use Rattle.plan.proofs.KindLaws.{same-kind, is-kind, kind-other, above-byte}
+use Rattle.plan.proofs.KindLaws.{same-kind, is-kind, kind-other, kind-block, above-byte}
 use Rattle.plan.proofs.AcceptedLaws.{child-between}
 use Rattle.event.specs.Event.{Code, start, offer, commit, abort, answered-yes, answered-no, pick, down, codeOf, eventOf}
 use Rattle.event.proofs.CodeLaws.{two, code-down}
@@ -59,23 +59,11 @@ module _ (code v : ℕ) where
   self-out h = rw (code-down code (not-between 1 7 code h))
 
 -- the kinds by their bytes
-block-low : (k : ℕ) → k ≤ 8 → (leb 2 k && leb k 8) ≡ not (isKind task (kindOf k))
-unfolding isKind kindNumber kindOf
-block-low zero l = refl
-block-low (suc zero) l = refl
-block-low (suc (suc zero)) l = refl
-block-low (suc (suc (suc zero))) l = refl
-block-low (suc (suc (suc (suc zero)))) l = refl
-block-low (suc (suc (suc (suc (suc zero))))) l = refl
-block-low (suc (suc (suc (suc (suc (suc zero)))))) l = refl
-block-low (suc (suc (suc (suc (suc (suc (suc zero))))))) l = refl
-block-low (suc (suc (suc (suc (suc (suc (suc (suc zero)))))))) l = refl
-block-low (suc (suc (suc (suc (suc (suc (suc (suc (suc k))))))))) l = absurd (omega arith)
-
 pub block-byte : (k : ℕ) → (leb 2 k && leb k 8) ≡ not (isKind task (kindOf k))
 unfolding isKind kindNumber
-block-byte k = cases (decided (leb k 8)) (λ e. block-low k (leb-true k 8 e))
-    (λ e. let l = leb-false k 8 e in rw (e, and-false, kind-other k (λ a b. omega arith)))
+block-byte k = cases (decided (leb 2 k && leb k 8))
+    (λ e. rw (e, kind-block k (leb-true 2 k (and-left _ _ e)) (leb-true k 8 (and-right (leb 2 k) _ e))))
+    (λ e. rw (e, kind-other k (λ a b. clash _ (and-join _ _ (le-leb 2 k a) (le-leb k 8 b)) e)))
 
 turn-low : (k : ℕ) → k ≤ 8 → ((eqb k 2 || eqb k 6) || eqb k 7) ≡ inTurn (kindOf k)
 unfolding inTurn kindOf

@@ -1,54 +1,37 @@
 -- The call: bytes that are compared, copied and lent, and the order of its numbers. Assumes nothing.
 use mathlib.Core.Path.{_≡_, refl, sym, _∙_, ap}
 use mathlib.Core.Bool.{Bool, true, false, cond, not, _&&_}
-use mathlib.Core.List.{List, _++_, append-nil}
+use mathlib.Core.List.{List, _++_}
 use Prim.Native.Nat.{ℕ, _≤_, _<_}
 use native.Mathlib.Omega.{arith}
 use lib.Dec.{eqb}
-use lib.ListN.{length, getD, take, drop, set, replicate, length-set, drop-of-length-le}
-use lib.Seq.{take-length}
+use lib.ListN.{length, getD, take, drop, set, replicate, length-set}
 use borrow.Author.Tests.{eqb-true, eqb-false, ne-eqb, lt-ltb, le-ltb, le-leb, lt-leb}
-use Rattle.lists.specs.Seq.{allBelow, upFrom}
-use Rattle.lists.proofs.Between.{between}
+use Rattle.lists.specs.Seq.{allBelow}
 use Rattle.lists.proofs.Logic.{cases, decided}
-use Rattle.lists.proofs.Lent.{fresh-length}
-use Rattle.lists.proofs.Parts.{Back, back-is}
-use Rattle.plan.specs.Plan.{size, task, kind, kindOf, kindByte, isKind, kindNumber}
+use Rattle.lists.proofs.Parts.{copied-over, Back, back-is}
+use Rattle.plan.specs.Plan.{size, task, kind, kindByte, isKind, kindNumber}
 use Rattle.plan.specs.Check.{fitNumber}
-use Rattle.plan.proofs.KindLaws.{kind-task}
+use Rattle.plan.proofs.KindLaws.{kind-task, kind-block}
 use Rattle.pass.specs.Pass.{PassResult, passResult, pass, passNumber, passInto}
 use Rattle.pass.specs.Values.{Ready}
 use Rattle.pass.proofs.PassLaws.{fits-ready, ready-into}
 use Rattle.reach.specs.Impact.{areMarks, newNumber, changeNumber, impactNumber, impactInto}
 use Rattle.impact.specs.declared.Told.{Told}
-use Rattle.impact.specs.Change.{Lent, changeInto, ToldOf}
+use Rattle.impact.specs.Change.{Changeable, changeInto, ToldOf}
 
 -- byte v is the same
 abbrev pub sameAt : List ℕ → List ℕ → ℕ → Bool
 sameAt a b v = eqb (getD a v 0) (getD b v 0)
 
--- a copy over as many bytes
-copied : (s d : List ℕ) → length s ≡ length d → take (length s) s ++ drop (length s) d ≡ s
-copied s d e = ap (λ z. take (length s) s ++ z) (drop-of-length-le d {i = length s} (omega arith)) ∙ append-nil _ ∙ take-length s
-
 pub replaced : (a o s : List ℕ) (t x : ℕ) → length a ≡ length o → s ≡ take (length a) a ++ drop (length a) o → set s t x ≡ set a t x
-replaced a o s t x e q = ap (λ z. set z t x) (q ∙ copied a o e)
+replaced a o s t x e q = ap (λ z. set z t x) (q ∙ copied-over a o e)
 
 -- the front of a local array, in which a function left s, is lent again
 pub lent-again : (p a s z m : List ℕ) (n : ℕ) (r : PassResult) → Back s z n → s ≡ a → passInto p (take n (s ++ drop n z)) m ≡ r → passInto p a m ≡ r
 lent-again p a s z m n r b e q = ap (λ y. passInto p y m) (sym (back-is b ∙ e)) ∙ q
 
-module _ {p a : List ℕ} {t : ℕ} (r : Lent p a t) (n : ℕ) (e : n ≡ size p) where
-  -- the front of a fresh local array
-  pub scratch-length : n ≡ length (take {A = ℕ} n (replicate 160 0))
-  scratch-length = e ∙ sym (fresh-length 160 n (size p) e (r .accepted .few))
-
-  pub scratch-size : length (take {A = ℕ} n (replicate 160 0)) ≡ size p
-  scratch-size = sym scratch-length ∙ e
-
-  pub scratch-ready : Ready p a (take {A = ℕ} n (replicate 160 0)) 0
-  scratch-ready = record { accepted = r .accepted; answers = r .answers; marks = scratch-size; node = r .accepted .some }
-
+module _ {p a : List ℕ} {t : ℕ} (r : Changeable p a t) (n : ℕ) (e : n ≡ size p) where
   pub set-back : (x : ℕ) (s : List ℕ) → s ≡ set a t x → Back s (replicate 160 0) n
   set-back x s q = record { long = ap length q ∙ length-set a t x ∙ r .answers ∙ sym e }
 
@@ -68,7 +51,7 @@ module _ (p a m : List ℕ) (r : Ready p a m 0) (k : ℕ) (n : List ℕ) (q : pa
   into-marks z = sym (ap (λ z. z .marks) (sym (ready-into p a m r) ∙ q)) ∙ rw z
 
 -- the number of the new answers, by a pass into any marks
-pub new-number-is : (p a m : List ℕ) (t x k : ℕ) (n : List ℕ) → Lent p a t → length m ≡ size p → passInto p (set a t x) m ≡ passResult k n → k ≡ pass p (set a t x) .number
+pub new-number-is : (p a m : List ℕ) (t x k : ℕ) (n : List ℕ) → Changeable p a t → length m ≡ size p → passInto p (set a t x) m ≡ passResult k n → k ≡ pass p (set a t x) .number
 new-number-is p a m t x k n r l q =
     into-number p (set a t x) m (record { accepted = r .accepted; answers = length-set a t x ∙ r .answers; marks = l; node = r .accepted .some }) k n q
 
@@ -92,7 +75,7 @@ module _ (p a m : List ℕ) (t x : ℕ) where
   change-done e = rw e
 
 -- case by case
-module _ (p a m : List ℕ) (t x : ℕ) (told : Told) (r : Lent p a t) (l : length m ≡ size p) (h : ToldOf p a m told) where
+module _ (p a m : List ℕ) (t x : ℕ) (told : Told) (r : Changeable p a t) (l : length m ≡ size p) (h : ToldOf p a m told) where
   pub change-old : (told .number ≡ 0 → ⊥) → changeInto p a m t x ≡ passResult (told .number) m
   change-old n = change-refused p a m t x (told .number) number n
     where
@@ -171,15 +154,14 @@ module _ (p a m : List ℕ) (t x k n : ℕ) (count : n ≡ size p) (told : k ≡
         number = unfold impactNumber in rw (fit-number ∙ none, le-ltb t (size p) (omega arith))
 
     module _ (l : t < n) where
-      pub impact-lent : Lent p a t
-      impact-lent = record { accepted = impact-ready .accepted; answers = impact-ready .answers; node = omega arith }
+      pub impact-changeable : Changeable p a t
+      impact-changeable = record { accepted = impact-ready .accepted; answers = impact-ready .answers; node = omega arith }
 
       not-task : (kindByte p t ≡ 1 → ⊥) → isKind task (kind p t) ≡ false
-      unfolding kind kindOf isKind kindNumber
-      not-task ne = other (kindByte p t) (impact-ready .accepted .low t (omega arith)) (impact-ready .accepted .high t (omega arith)) ne
-        where
-          other : (j : ℕ) → 1 ≤ j → j ≤ 8 → (j ≡ 1 → ⊥) → isKind task (kindOf j) ≡ false
-          other j a b c = between (λ j. isKind task (kindOf j)) (λ j. false) 2 7 (unfold upFrom in refl) j (omega arith) (omega arith)
+      unfolding kind
+      not-task ne =
+          let low = impact-ready .accepted .low t (omega arith) in
+          kind-block (kindByte p t) (omega arith) (impact-ready .accepted .high t (omega arith))
 
       pub impact-no-task : (kindByte p t ≡ 1 → ⊥) → impactInto p a m t x ≡ passResult 9 m
       impact-no-task ne = impact-refused 9 number (λ e. omega arith)

@@ -11,8 +11,8 @@ use Rattle.pass.specs.Pass.{PassResult, passResult, pass}
 use Rattle.reach.specs.Impact.{areMarks, changeNumber}
 use Rattle.impact.specs.declared.Told.{Told}
 
--- O6, H7, H8: what has been tested: an accepted plan, one answer a node, and t is a node
-pub record Lent (p a : List ℕ) (t : ℕ) : Type 0 where
+-- O6, H7, H8: t's answer can be changed: an accepted plan, one answer a node, and t is a node
+pub record Changeable (p a : List ℕ) (t : ℕ) : Type 0 where
   pub accepted : Accepted p
   pub answers : length a ≡ size p
   pub node : t < size p

@@ -9,7 +9,7 @@ ghost use Rattle.lists.specs.Seq.{allBelow};
 ghost use Rattle.plan.specs.Plan.{size};
 ghost use Rattle.pass.specs.Pass.{pass, passResult, passInto};
 ghost use Rattle.reach.specs.Impact.{impactInto};
-ghost use Rattle.impact.specs.Change.{Lent, changeInto, ToldOf};
+ghost use Rattle.impact.specs.Change.{Changeable, changeInto, ToldOf};
 
 // What the pass over the answers says: its number, and whether the marks handed in are its.
 struct Told {
@@ -43,7 +43,7 @@ fn replace(answers: &[u8], t: usize, x: u8, out: &mut [u8])
 
 // The pass over the answers with x at t.
 fn pass_new(plan: &[u8], answers: &[u8], t: usize, x: u8, marks: &mut [u8]) -> u8
-    requires { ⌜ Lent (now plan) (now answers) t × (length (now marks) ≡ size (now plan)) ⌝ }
+    requires { ⌜ Changeable (now plan) (now answers) t × (length (now marks) ≡ size (now plan)) ⌝ }
     ensures { λ r. ⌜ passInto (now (plan .entry)) (set (now (answers .entry)) t x) (now (marks .entry)) ≡ passResult r (now (marks .exit)) ⌝ }
 {
     let n = plan::node_count(plan);
@@ -54,7 +54,7 @@ fn pass_new(plan: &[u8], answers: &[u8], t: usize, x: u8, marks: &mut [u8]) -> u
 
 // Its number alone.
 fn new_number(plan: &[u8], answers: &[u8], t: usize, x: u8) -> u8
-    requires { ⌜ Lent (now plan) (now answers) t ⌝ }
+    requires { ⌜ Changeable (now plan) (now answers) t ⌝ }
     ensures { λ r. ⌜ r ≡ pass (now (plan .entry)) (set (now (answers .entry)) t x) .number ⌝ }
 {
     let n = plan::node_count(plan);
@@ -64,7 +64,7 @@ fn new_number(plan: &[u8], answers: &[u8], t: usize, x: u8) -> u8
 
 // The pass over the answers as they are, against the marks.
 fn old_pass(plan: &[u8], answers: &[u8], marks: &[u8], t: usize) -> Told
-    requires { ⌜ Lent (now plan) (now answers) t × (length (now marks) ≡ size (now plan)) ⌝ }
+    requires { ⌜ Changeable (now plan) (now answers) t × (length (now marks) ≡ size (now plan)) ⌝ }
     ensures { λ r. ⌜ ToldOf (now (plan .entry)) (now (answers .entry)) (now (marks .entry)) r ⌝ }
 {
     let n = plan::node_count(plan);
@@ -79,7 +79,7 @@ fn old_pass(plan: &[u8], answers: &[u8], marks: &[u8], t: usize) -> Told
 
 // The change, for a plan, lengths and a task that are right.
 fn change(plan: &[u8], answers: &[u8], marks: &mut [u8], t: usize, answer: u32) -> u8
-    requires { ⌜ Lent (now plan) (now answers) t × (length (now marks) ≡ size (now plan)) ⌝ }
+    requires { ⌜ Changeable (now plan) (now answers) t × (length (now marks) ≡ size (now plan)) ⌝ }
     ensures { λ r. ⌜ changeInto (now (plan .entry)) (now (answers .entry)) (now (marks .entry)) t answer ≡ passResult r (now (marks .exit)) ⌝ }
 {
     let told = old_pass(plan, answers, marks, t);

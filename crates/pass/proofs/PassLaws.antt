@@ -1,17 +1,18 @@
 -- The whole pass: what was refused before it, and how the settled root's marks are handed out. Assumes nothing.
 use mathlib.Core.Path.{_≡_, refl, sym, _∙_, ap}
 use mathlib.Core.Bool.{not, cond, _&&_}
-use mathlib.Core.List.{List, [], _++_, append-nil}
+use mathlib.Core.List.{List, _++_}
 use Prim.Native.Nat.{ℕ, _≤_, _<_}
 use native.Mathlib.Omega.{arith}
 use lib.Dec.{eqb}
-use lib.ListN.{length, set, take, drop, replicate, length-append, drop-of-length-le}
-use lib.Seq.{take-at, take-length}
+use lib.ListN.{length, set, take, drop, replicate, length-append}
+use lib.Seq.{take-at}
 use borrow.Author.Tests.{eq-eqb, ne-eqb, eqb-true}
 use Rattle.lists.proofs.Logic.{cases, and-left, and-right, and-join}
 use Rattle.lists.proofs.Lent.{fresh-zeros, fresh-length}
+use Rattle.lists.proofs.Parts.{copied-over}
 use Rattle.plan.specs.Plan.{size}
-use Rattle.plan.specs.Check.{fitNumber}
+use Rattle.plan.specs.Check.{Accepted, fitNumber}
 use Rattle.plan.proofs.Main.{fit-exact}
 use Rattle.pass.specs.Pass.{numberOf, rootMark, passOf, pass, passResult, passNumber, passInto}
 use Rattle.pass.specs.Values.{outcomeOf, Ready, Settles}
@@ -55,12 +56,15 @@ blank n = take n (replicate 160 0)
 abbrev front : ℕ → List ℕ → List ℕ
 front n y = take n (y ++ drop n (replicate 160 0))
 
-module _ {p a m : List ℕ} (r : Ready p a m 0) (n : ℕ) (e : n ≡ size p) where
-  pub blank-length : n ≡ length (blank n)
-  blank-length = e ∙ sym (fresh-length 160 n (size p) e (r .accepted .few))
+module _ {p : List ℕ} (ok : Accepted p) (n : ℕ) (e : n ≡ size p) where
+  pub blank-size : length (blank n) ≡ size p
+  blank-size = fresh-length 160 n (size p) e (ok .few)
 
-  pub blank-ready : Ready p a (blank n) 0
-  blank-ready = record { accepted = r .accepted; answers = r .answers; marks = sym blank-length ∙ e; node = r .node }
+  pub blank-length : n ≡ length (blank n)
+  blank-length = e ∙ sym blank-size
+
+  pub blank-ready : {a : List ℕ} → length a ≡ size p → Ready p a (blank n) 0
+  blank-ready l = record { accepted = ok; answers = l; marks = blank-size; node = ok .some }
 
 -- the end of the root is its mark or its fault's number
 root-works : (o : ℕ) → 3 ≤ o → o ≤ 4 → (numberOf (outcomeOf o) ≡ 0) × (rootMark (outcomeOf o) ≡ o)
@@ -80,7 +84,7 @@ pub record Root (p a m : List ℕ) (n : ℕ) (y : List ℕ) (o : ℕ) : Type 0 w
 
 module _ {p a m : List ℕ} {n : ℕ} {y : List ℕ} {o : ℕ} (root : Root p a m n y o) where
   fills : length y ≡ n
-  fills = root .long ∙ sym (blank-length (root .ready) n (root .size-is))
+  fills = root .long ∙ sym (blank-length (root .ready .accepted) n (root .size-is))
 
   front-is : front n y ≡ y
   front-is = take-at y (drop n (replicate 160 0)) n fills
@@ -107,8 +111,5 @@ module _ {p a m : List ℕ} {n : ℕ} {y : List ℕ} {o : ℕ} (root : Root p a 
       let r = root-works o (root .settled .least) h in
       ready-into p a m (root .ready) ∙ rw (pass-is, r .0, r .1, same)
     where
-      over : drop (length y) m ≡ []
-      over = drop-of-length-le m {i = length y} (omega (arith, fills, root .size-is, root .ready .marks))
-
       same : s ≡ y
-      same = f ∙ rw (front-is, take-length y, over) (append-nil y)
+      same = f ∙ rw front-is (copied-over y m (fills ∙ root .size-is ∙ sym (root .ready .marks)))

@@ -7,6 +7,8 @@ use Prim.Native.Nat.{ℕ, _≤_, _<_}
 use lib.Dec.{eqb}
 use borrow.Author.Tests.{ne-eqb, eqb-true, eqb-false}
 use native.Mathlib.Omega.{arith}
+use Rattle.lists.specs.Seq.{upFrom}
+use Rattle.lists.proofs.Between.{between}
 use Rattle.lists.proofs.Logic.{cases, decided, no-bool}
 use Rattle.plan.specs.Plan.{Kind, task, serial, and, or, xor, contingency, conditional, waiting, kindNumber, isKind, kindOf, kindByte, kind, parent, above, aboveByte}
 
@@ -28,6 +30,11 @@ kind-other k h =
       ne 7 (omega arith) (omega arith),
       ne 8 (omega arith) (omega arith),
     )
+
+-- and a byte that is one's is no task's
+pub kind-block : (k : ℕ) → 2 ≤ k → k ≤ 8 → isKind task (kindOf k) ≡ false
+unfolding isKind kindNumber kindOf upFrom
+kind-block k l h = between (λ j. isKind task (kindOf j)) (λ j. false) 2 7 refl k l (omega arith)
 
 -- the kind above, read off its byte
 pub above-byte : (p : List ℕ) (v : ℕ) → above p v ≡ kindOf (aboveByte p v)

@@ -27,29 +27,29 @@ among-before k x e g b (d ∷ cs) t c (next l r) (there i) h =
     ∙ among-before k x e g d cs (counted k x t (g d)) c r i (λ b j. h b (there j)))
 
 -- blocks that settle their children one after another
-unfoldable pub inTurn : Kind → Bool
-inTurn task = false
-inTurn serial = true
-inTurn and = false
-inTurn or = false
-inTurn xor = false
-inTurn contingency = true
-inTurn conditional = false
-inTurn waiting = false
+unfoldable pub oneByOne : Kind → Bool
+oneByOne task = false
+oneByOne serial = true
+oneByOne and = false
+oneByOne or = false
+oneByOne xor = false
+oneByOne contingency = true
+oneByOne conditional = false
+oneByOne waiting = false
 
-pub turn-kinds : (k : Kind) → inTurn k ≡ true → (k ≡ serial) ⊎ (k ≡ contingency)
-unfolding inTurn
-turn-kinds task e = clash false e refl
-turn-kinds serial e = inl refl
-turn-kinds and e = clash false e refl
-turn-kinds or e = clash false e refl
-turn-kinds xor e = clash false e refl
-turn-kinds contingency e = inr refl
-turn-kinds conditional e = clash false e refl
-turn-kinds waiting e = clash false e refl
+pub one-by-one-kinds : (k : Kind) → oneByOne k ≡ true → (k ≡ serial) ⊎ (k ≡ contingency)
+unfolding oneByOne
+one-by-one-kinds task e = clash false e refl
+one-by-one-kinds serial e = inl refl
+one-by-one-kinds and e = clash false e refl
+one-by-one-kinds or e = clash false e refl
+one-by-one-kinds xor e = clash false e refl
+one-by-one-kinds contingency e = inr refl
+one-by-one-kinds conditional e = clash false e refl
+one-by-one-kinds waiting e = clash false e refl
 
-goes-free : (k : Kind) → inTurn k ≡ false → (x : ℕ) (t u : Tally) → t .places ≡ u .places → t .wrong ≡ 0 → u .wrong ≡ 0 → goes k x t ≡ goes k x u
-unfolding goes goesBy inTurn
+goes-free : (k : Kind) → oneByOne k ≡ false → (x : ℕ) (t u : Tally) → t .places ≡ u .places → t .wrong ≡ 0 → u .wrong ≡ 0 → goes k x t ≡ goes k x u
+unfolding goes goesBy oneByOne
 goes-free task f x t u p w z = rw (w, z)
 goes-free serial f x t u p w z = clash true refl f
 goes-free and f x t u p w z = rw (w, z)
@@ -76,7 +76,7 @@ count-places k x t o = go (goes k x t) o
     go false o = refl
 
 -- in any other block, where no child has a fault, the end of one child y does not count for the mark of another
-module _ (k : Kind) (free : inTurn k ≡ false) (x : ℕ) (e g : ℕ → Outcome) (y : ℕ) where
+module _ (k : Kind) (free : oneByOne k ≡ false) (x : ℕ) (e g : ℕ → Outcome) (y : ℕ) where
   pub among-free : (cs : List ℕ) (t u : Tally) (c : ℕ) → t .places ≡ u .places → tallied k x e cs t .wrong ≡ 0 → tallied k x g cs u .wrong ≡ 0 →
       ((d : ℕ) → In d cs → (d ≡ y → ⊥) → e d ≡ g d) → (c ≡ y → ⊥) → markAmong k x e cs t c ≡ markAmong k x g cs u c
   unfolding markAmong

@@ -26,7 +26,7 @@ use Rattle.pass_nodes.proofs.ReachedLaws.{endOfMark, reached, node, child-on, c
 use Rattle.pass_nodes.proofs.Main.{pass-by-nodes, ends-under, marks-below, same-elsewhere, unread-free}
 use Rattle.reach.specs.Reach.{OneTask, Follows, InReach, above, after}
 use Rattle.reach.specs.Claim.{ChangeWithinReach}
-use Rattle.reach.proofs.AmongLaws.{among-before, inTurn, turn-kinds, among-free, xor-end}
+use Rattle.reach.proofs.AmongLaws.{among-before, oneByOne, one-by-one-kinds, among-free, xor-end}
 
 swapped : (p a b : List ℕ) (t : ℕ) → OneTask p a b t → OneTask p b a t
 swapped p a b t h = record { within = h .within; is-task = h .is-task; same = λ w s n. sym (h .same w s n); first = h .second; second = h .first }
@@ -90,11 +90,11 @@ module _ (p : List ℕ) (ok : Accepted p) (a b : List ℕ) (t : ℕ) (h : OneTas
       sound-b : tallied (kind p u) (getD b u 0) (endAt p b) (children p u) nothing .wrong ≡ 0
       sound-b = node p ok b (h .second) u u-in (reached p ok b (h .second) u u-in (above-reached p ok b (h .second) u t (h .within) above-u on-b)) .sound
 
-      free : inTurn (kind p u) ≡ false → passMark p a w ≡ passMark p b w
+      free : oneByOne (kind p u) ≡ false → passMark p a w ≡ passMark p b w
       free f = same-given above-u (among-free (kind p u) f (getD a u 0) (endAt p a) (endAt p b) y (children p u) nothing nothing w refl sound-a
           (ap (λ z. tallied (kind p u) z (endAt p b) (children p u) nothing .wrong) answer ∙ sound-b) (λ d k n. ends-aside u y d j x k n) apart-y)
 
-      follows : y ≤ w → inTurn (kind p u) ≡ true → Follows p y w
+      follows : y ≤ w → oneByOne (kind p u) ≡ true → Follows p y w
       follows le f =
           let cy = child-of p u j in
           let ne : w ≡ y → ⊥ = apart-y in
@@ -102,13 +102,13 @@ module _ (p : List ℕ) (ok : Accepted p) (a b : List ℕ) (t : ℕ) (h : OneTas
             inner = cy .low;
             later = omega arith;
             sibling = child-of p u i .of ∙ sym (cy .of);
-            in-turn = turn-kinds (kind p (parent p y)) (ap (λ z. inTurn (kind p z)) (cy .of) ∙ f);
+            one-by-one = one-by-one-kinds (kind p (parent p y)) (ap (λ z. oneByOne (kind p z)) (cy .of) ∙ f);
           }
 
       beside : (passMark p a w ≡ passMark p b w) ⊎ InReach p t w
       beside = cases (decided (ltb w y))
           (λ l. inl (before (ltb-true w y l)))
-          (λ l. cases (decided (inTurn (kind p u)))
+          (λ l. cases (decided (oneByOne (kind p u)))
           (λ f. inr (after y w x (follows (ltb-false w y l) f) (self refl)))
           (λ f. inl (free f)))
 

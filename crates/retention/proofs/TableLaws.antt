@@ -1,23 +1,23 @@
 -- The class of a node by its kind's byte, and the tests of a table in their order. Assumes nothing.
-use mathlib.Core.Path.{_≡_, refl, sym, _∙_}
-use mathlib.Core.Bool.{true, false, cond, and-false}
+use mathlib.Core.Path.{_≡_, sym, _∙_}
+use mathlib.Core.Bool.{true, false, and-false}
 use mathlib.Core.List.{List}
 use Prim.Native.Nat.{ℕ, _+_, _*_, _≤_, _<_}
 use lib.Dec.{leb}
 use lib.ListN.{length, getD}
 use borrow.Author.Tests.{eq-eqb, ne-eqb}
-use Rattle.lists.specs.Seq.{upFrom, allBelow}
+use native.Mathlib.Omega.{arith}
+use Rattle.lists.specs.Seq.{allBelow}
 use Rattle.lists.proofs.Below.{below-stop}
-use Rattle.lists.proofs.Between.{between}
-use Rattle.plan.specs.Plan.{task, kindNumber, isKind, kindOf, kindByte, kind}
-use Rattle.plan.proofs.KindLaws.{kind-other}
+use Rattle.plan.specs.Plan.{kindNumber, isKind, kindByte, kind}
+use Rattle.plan.proofs.KindLaws.{kind-other, kind-block}
 use Rattle.retention.specs.Record.{frameOk, tableOk, tableNumber, classOf, countsAs, class}
 
 -- the class of a block and of a task, by its kind's byte k
 module _ (p tab m : List ℕ) (v k : ℕ) (e : k ≡ kindByte p v) where
   pub class-block : 2 ≤ k → k < 9 → 0 ≡ class p tab m v
-  unfolding class kind isKind kindNumber kindOf upFrom
-  class-block l h = rw (← e) (between (λ k. 0) (λ k. cond (isKind task (kindOf k)) (classOf tab (countsAs p m v)) 0) 2 7 refl k l h)
+  unfolding class kind
+  class-block l h = rw (← e, kind-block k l (omega arith))
 
   -- x is the mark as which it counts, y the class that was read
   pub class-task : (2 ≤ k → k ≤ 8 → ⊥) → (x j y : ℕ) → x ≡ countsAs p m v → j ≡ x → y ≡ getD tab (2 * j + 1) 0 → y ≡ class p tab m v

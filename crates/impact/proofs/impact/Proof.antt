@@ -3,7 +3,7 @@ use mathlib.Core.Path.{_∙_}
 use native.Mathlib.Omega.{arith}
 use Rattle.plan.specs.Plan.{kindByte}
 use Rattle.pass.specs.Values.{Ready}
-use Rattle.impact.proofs.ChangeLaws.{impact-unfit, impact-ready, impact-no-node, impact-lent, impact-no-task, impact-change}
+use Rattle.impact.proofs.ChangeLaws.{impact-unfit, impact-ready, impact-no-node, impact-changeable, impact-no-task, impact-change}
 use borrow.Author.Needs.{needs}
 use Rattle.impact.proofs.impact.Statement.{statement}
 use Rattle.impact.proofs.impact.Tie as tie
@@ -36,7 +36,7 @@ returns-3 c = impact-no-task (c .before .before .before .before .before .before 
 
 change-requires : tie.Need-change-requires
 change-requires c κs = (
-  impact-lent (c .before .before .before .before .before .before .before .before .before .before .args .plan .now) (c .before .before .before .before .before .before .before .before .before .before .args .answers .now) (c .before .before .before .before .before .before .before .before .before .before .args .marks .now) (c .before .before .before .before .before .before .before .before .before .before .args .task) (c .before .before .before .before .before .before .before .before .before .before .args .answer) _ _ (c .before .before .before .before .before .before .node-count .ensures) (c .before .before .before .before .before .fit .ensures) (c .before .before .before .before .if1 .left) (omega (arith, c .before .before .before .if2 .left)),
+  impact-changeable (c .before .before .before .before .before .before .before .before .before .before .args .plan .now) (c .before .before .before .before .before .before .before .before .before .before .args .answers .now) (c .before .before .before .before .before .before .before .before .before .before .args .marks .now) (c .before .before .before .before .before .before .before .before .before .before .args .task) (c .before .before .before .before .before .before .before .before .before .before .args .answer) _ _ (c .before .before .before .before .before .before .node-count .ensures) (c .before .before .before .before .before .fit .ensures) (c .before .before .before .before .if1 .left) (omega (arith, c .before .before .before .if2 .left)),
   ready (c .before .before .before .before) .marks,
 )
 

@@ -1,5 +1,6 @@
 -- The marks go into a local array and are forgotten. Assumes nothing.
-use Rattle.impact.proofs.ChangeLaws.{scratch-length, scratch-size, new-number-is}
+use Rattle.pass.proofs.PassLaws.{blank-length, blank-size}
+use Rattle.impact.proofs.ChangeLaws.{new-number-is}
 use borrow.Author.Needs.{needs}
 use Rattle.impact.proofs.new_number.Statement.{statement}
 use Rattle.impact.proofs.new_number.Tie as tie
@@ -11,15 +12,15 @@ array-borrow-prefix-scratch : tie.Need-array-borrow-prefix-scratch
 array-borrow-prefix-scratch c = search needs
 
 slice-aggregate-pass-new : tie.Need-slice-aggregate-pass-new
-slice-aggregate-pass-new c = scratch-length (c .before .before .before .before .pre) _ (c .before .node-count .ensures)
+slice-aggregate-pass-new c = blank-length (c .before .before .before .before .pre .accepted) _ (c .before .node-count .ensures)
 
 pass-new-requires : tie.Need-pass-new-requires
-pass-new-requires c κs = let r = c .before .before .before .before .pre in (r, scratch-size r _ (c .before .node-count .ensures))
+pass-new-requires c κs = let r = c .before .before .before .before .pre in (r, blank-size (r .accepted) _ (c .before .node-count .ensures))
 
 returns : tie.Need-returns
 returns c =
     new-number-is (c .before .before .before .before .before .before .args .plan .now) (c .before .before .before .before .before .before .args .answers .now) _ _ _ _ _ (c .before .before .before .before .before .before .pre)
-    (scratch-size (c .before .before .before .before .before .before .pre) _ (c .before .before .before .node-count .ensures)) (c .before .pass-new .ensures)
+    (blank-size (c .before .before .before .before .before .before .pre .accepted) _ (c .before .before .before .node-count .ensures)) (c .before .pass-new .ensures)
 
 pub new-number-spec : {M : Type 1} → statement M
 new-number-spec =

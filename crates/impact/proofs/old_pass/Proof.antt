@@ -3,7 +3,8 @@ use mathlib.Core.Path.{sym, _∙_}
 use native.Mathlib.Omega.{arith}
 use lib.ListN.{replicate}
 use Rattle.lists.proofs.Parts.{Back, back-room, back-length}
-use Rattle.impact.proofs.ChangeLaws.{scratch-length, scratch-ready, told-is}
+use Rattle.pass.proofs.PassLaws.{blank-length, blank-ready}
+use Rattle.impact.proofs.ChangeLaws.{told-is}
 use borrow.Author.Needs.{needs}
 use Rattle.impact.proofs.old_pass.Statement.{statement}
 use Rattle.impact.proofs.old_pass.Tie as tie
@@ -15,14 +16,14 @@ array-borrow-prefix-scratch : tie.Need-array-borrow-prefix-scratch
 array-borrow-prefix-scratch c = search needs
 
 slice-aggregate-settle-all : tie.Need-slice-aggregate-settle-all
-slice-aggregate-settle-all c = scratch-length (c .before .before .before .before .before .pre .0) _ (c .before .node-count .ensures)
+slice-aggregate-settle-all c = blank-length (c .before .before .before .before .before .pre .0 .accepted) _ (c .before .node-count .ensures)
 
 settle-all-requires : tie.Need-settle-all-requires
-settle-all-requires c κs = scratch-ready (c .before .before .before .before .before .pre .0) _ (c .before .node-count .ensures)
+settle-all-requires c κs = blank-ready (c .before .before .before .before .before .pre .0 .accepted) _ (c .before .node-count .ensures) (c .before .before .before .before .before .pre .0 .answers)
 
 -- what the pass left
 back : (c : tie.After-settle-all) → Back (c .settle-all .last .1 .1 .0) (replicate 160 0) (c .before .before .node-count .result)
-back c = record { long = c .settle-all .kept .1 .1 .0 ∙ sym (scratch-length (c .before .before .before .before .before .before .pre .0) _ (c .before .before .node-count .ensures)) }
+back c = record { long = c .settle-all .kept .1 .1 .0 ∙ sym (blank-length (c .before .before .before .before .before .before .pre .0 .accepted) _ (c .before .before .node-count .ensures)) }
 
 array-share-prefix-scratch : tie.Need-array-share-prefix-scratch
 array-share-prefix-scratch c = back-room (back (c .before))
@@ -39,7 +40,7 @@ returns : tie.Need-returns
 returns c =
     let e = c .before .before .before .before .before .node-count .ensures in
     told-is (c .before .before .before .before .before .before .before .before .before .args .plan .now) (c .before .before .before .before .before .before .before .before .before .args .answers .now) (c .before .before .before .before .before .before .before .before .before .args .marks .now) (c .before .before .before .settle-all .last .1 .1 .0) (replicate 160 0) _ _ _ _
-    (scratch-ready (c .before .before .before .before .before .before .before .before .before .pre .0) _ e) e (back (c .before .before .before)) (c .before .before .before .settle-all .ensures) (c .same .ensures)
+    (blank-ready (c .before .before .before .before .before .before .before .before .before .pre .0 .accepted) _ e (c .before .before .before .before .before .before .before .before .before .pre .0 .answers)) e (back (c .before .before .before)) (c .before .before .before .settle-all .ensures) (c .same .ensures)
 
 pub old-pass-spec : {M : Type 1} → statement M
 old-pass-spec =

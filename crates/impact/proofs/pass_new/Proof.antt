@@ -3,7 +3,8 @@ use mathlib.Core.Path.{sym, _∙_}
 use native.Mathlib.Omega.{arith}
 use lib.ListN.{replicate}
 use Rattle.lists.proofs.Parts.{Back, back-room, back-length}
-use Rattle.impact.proofs.ChangeLaws.{scratch-length, scratch-size, set-back, new-ready, lent-again}
+use Rattle.pass.proofs.PassLaws.{blank-length, blank-size}
+use Rattle.impact.proofs.ChangeLaws.{set-back, new-ready, lent-again}
 use borrow.Author.Needs.{needs}
 use Rattle.impact.proofs.pass_new.Statement.{statement}
 use Rattle.impact.proofs.pass_new.Tie as tie
@@ -15,10 +16,10 @@ array-borrow-prefix-next : tie.Need-array-borrow-prefix-next
 array-borrow-prefix-next c = search needs
 
 slice-aggregate-replace : tie.Need-slice-aggregate-replace
-slice-aggregate-replace c = scratch-length (c .before .before .before .before .before .pre .0) _ (c .before .node-count .ensures)
+slice-aggregate-replace c = blank-length (c .before .before .before .before .before .pre .0 .accepted) _ (c .before .node-count .ensures)
 
 replace-requires : tie.Need-replace-requires
-replace-requires c κs = let r = c .before .before .before .before .before .pre .0 in (r .answers ∙ sym (scratch-size r _ (c .before .node-count .ensures)), omega (arith, r .answers, r .node))
+replace-requires c κs = let r = c .before .before .before .before .before .pre .0 in (r .answers ∙ sym (blank-size (r .accepted) _ (c .before .node-count .ensures)), omega (arith, r .answers, r .node))
 
 -- what `replace` left
 back : (c : tie.After-replace) → Back (c .replace .last .1 .1 .1 .0) (replicate 160 0) (c .before .before .node-count .result)

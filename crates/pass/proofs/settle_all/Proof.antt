@@ -12,10 +12,10 @@ array-borrow-prefix-buf : tie.Need-array-borrow-prefix-buf
 array-borrow-prefix-buf c = search needs
 
 slice-aggregate-settle-root : tie.Need-slice-aggregate-settle-root
-slice-aggregate-settle-root c = blank-length (c .before .before .before .before .before .pre) _ (c .before .node-count .ensures)
+slice-aggregate-settle-root c = blank-length (c .before .before .before .before .before .pre .accepted) _ (c .before .node-count .ensures)
 
 settle-root-requires : tie.Need-settle-root-requires
-settle-root-requires c κs = blank-ready (c .before .before .before .before .before .pre) _ (c .before .node-count .ensures)
+settle-root-requires c κs = let r = c .before .before .before .before .before .pre in blank-ready (r .accepted) _ (c .before .node-count .ensures) (r .answers)
 
 root : (c : tie.After-settle-root) →
     Root (c .before .before .before .before .before .before .args .plan .now) (c .before .before .before .before .before .before .args .answers .now) (c .before .before .before .before .before .before .args .marks .now) (c .before .before .node-count .result) (c .settle-root .last .1 .1 .0) (c .settle-root .result)
