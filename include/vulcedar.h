@@ -1,5 +1,5 @@
 /*
- * Vulcedar 1.4.0: jobs that follow a plan, decided by the sites that do the work.
+ * Vulcedar 1.5.0: jobs that follow a plan, decided by the sites that do the work.
  *
  * A plan is a tree of tasks and blocks. Every node has a site; a site keeps one row of bytes, what it has heard, and
  * decides the events of its node from that row alone. This header is all that a host needs; docs/GUIDE.md shows how a
@@ -154,7 +154,9 @@ enum vulcedar_number {
     VULCEDAR_NO_FREE_POINT = 20,   /* sixteen other points are in use */
     VULCEDAR_BAD_TABLE = 21,       /* the table of classes is not one; found before the plan's own numbers */
     VULCEDAR_BAD_DESK = 22,        /* a plan with desks has a desk above VULCEDAR_DESK_HIGHEST; found behind 6 and before 7 */
-    VULCEDAR_BAD_MARKS = 28        /* the marks are not those that the pass leaves for these answers */
+    VULCEDAR_BAD_MARKS = 28,       /* the marks are not those that the pass leaves for these answers */
+    VULCEDAR_BAD_TARGET = 29,      /* a mark is wanted that the pass leaves at no node, or an end that it leaves at no root */
+    VULCEDAR_NO_WAY = 30           /* the pass accepts no answers with the marks that are wanted */
 };
 
 /* The parts of a result r, a uint32_t. */
@@ -260,6 +262,17 @@ uint32_t vulcedar_pass(const uint8_t *plan, size_t plan_len, const uint8_t *answ
  */
 uint32_t vulcedar_impact(const uint8_t *plan, size_t plan_len, const uint8_t *answers, size_t answers_len, uint8_t *marks,
                          size_t marks_len, uint32_t task, uint32_t answer);
+
+/*
+ * Which answers lead there? mark is wanted for node: VULCEDAR_NOT_STARTED, _COMMITTED, _FAILED or _TURNED_DOWN; end is wanted
+ * for the root: VULCEDAR_COMMITTED or _FAILED. answers has one byte a node. On 0 it has answers that vulcedar_pass accepts and
+ * with which it leaves both marks; of all such answers the smallest, compared byte by byte from node 0 on, so that an answer
+ * which the pass does not look at is 0. What was in answers before does not matter, and it is written only on 0. 1 to 6; 7; 8;
+ * 29 for another mark or end; 30 if there are no such answers, whatever bytes are tried. Where mark and end are both
+ * VULCEDAR_COMMITTED, or both VULCEDAR_FAILED, there are some, at every node of every plan.
+ */
+uint32_t vulcedar_way(const uint8_t *plan, size_t plan_len, uint32_t node, uint32_t mark, uint32_t end, uint8_t *answers,
+                      size_t answers_len);
 
 /*
  * A step of a simulation of all sites. state has the rows of all sites one after another, nodes times nodes bytes, zeros
