@@ -13,6 +13,7 @@ use crate::refusal::Refusal;
 use crate::simulate::Outcome;
 use crate::site::Verdict;
 use crate::table::Table;
+use crate::way as ways;
 use crate::{central as central_rule, desks, guard as guards, journal as journals};
 use crate::{impact as impacts, pass as passes, plan, points};
 use crate::{rewrite as rewriting, rule as rules, simulate as simulation, site as sites, text as texts};
@@ -90,6 +91,13 @@ pub fn pass(plan: &[u8], answers: &[u8], marks: &mut [u8]) -> u32 {
 #[inline(never)]
 pub fn impact(plan: &[u8], answers: &[u8], marks: &mut [u8], task: u32, answer: u32) -> u32 {
     done(impacts::impact(plan, answers, marks, task, answer))
+}
+
+/// The smallest list of answers with which the pass leaves a mark at a node and
+/// an end at the root. 1 to 8, 29, 30.
+#[inline(never)]
+pub fn way(plan: &[u8], node: u32, mark: u32, end: u32, answers: &mut [u8]) -> u32 {
+    done(ways::way(plan, node, mark, end, answers))
 }
 
 /// A step of a simulation: an event if the site is 255, else a message to
@@ -288,10 +296,10 @@ pub fn rehearse(text: &[u8], out: &mut [u8]) -> u32 {
     }
 }
 
-/// The version of these calls, a byte each for its three numbers: 1.4.0.
+/// The version of these calls, a byte each for its three numbers: 1.5.0.
 #[inline(never)]
 pub fn version() -> u32 {
-    (1 << 16) + (4 << 8)
+    (1 << 16) + (5 << 8)
 }
 
 /// The central rule; the value is 1 if the event was allowed. 1 to 9.

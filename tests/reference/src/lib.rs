@@ -4,7 +4,7 @@
 //! It was written from those papers alone, so that a mistake made elsewhere
 //! is not made here a second time. The C archive is compared with it, and it
 //! is the yardstick for speed: nothing here allocates except the simulation
-//! from text.
+//! from text, and what tries every list of answers, [`lists`].
 //!
 //! * [`exported`] has one function for each function of the C archive, with
 //!   the same packed results.
@@ -25,6 +25,7 @@ pub mod guard;
 pub mod impact;
 pub mod journal;
 pub mod layout;
+pub mod lists;
 pub mod mark;
 pub mod pass;
 pub mod plan;
@@ -37,6 +38,7 @@ pub mod simulate;
 pub mod site;
 pub mod table;
 pub mod text;
+pub mod way;
 
 pub use refusal::Refusal;
 pub use text::rehearse;

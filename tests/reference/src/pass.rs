@@ -1,7 +1,7 @@
 //! The single pass: a whole job at once, from given answers.
 
 use crate::mark::{COMMITTED, FAILED, IDLE, TURNED_DOWN};
-use crate::plan::{Kind, MAX_NODES, Plan};
+use crate::plan::{Kind, Links, MAX_NODES, Plan};
 use crate::refusal::Refusal;
 
 /// Settles the plan from one answer byte a node and writes every mark.
@@ -24,31 +24,17 @@ pub(crate) fn settle(plan: Plan, answers: &[u8], marks: &mut [u8]) -> Result<(),
     Ok(())
 }
 
-/// Stands for no node in the links.
-const NOBODY: u8 = 0xff;
-
 /// A pass under way.
 struct Run<'a> {
     plan: Plan<'a>,
     answers: &'a [u8],
     marks: [u8; MAX_NODES],
-    first_child: [u8; MAX_NODES],
-    next_sibling: [u8; MAX_NODES],
+    links: Links,
 }
 
 impl<'a> Run<'a> {
-    /// Links each block's children once, so that settling is linear. Going
-    /// down the numbers puts the lowest child first.
     fn new(plan: Plan<'a>, answers: &'a [u8]) -> Run<'a> {
-        let mut first_child = [NOBODY; MAX_NODES];
-        let mut next_sibling = [NOBODY; MAX_NODES];
-        for node in (1..plan.size()).rev() {
-            if let Some(parent) = plan.parent(node) {
-                next_sibling[node] = first_child[parent];
-                first_child[parent] = node as u8;
-            }
-        }
-        Run { plan, answers, marks: [IDLE; MAX_NODES], first_child, next_sibling }
+        Run { plan, answers, marks: [IDLE; MAX_NODES], links: Links::new(&plan) }
     }
 
     /// Settles a node with the children it reaches, and marks it as one that
@@ -80,12 +66,12 @@ impl<'a> Run<'a> {
     /// Children in turn, up to the first that comes out as `last`. With none
     /// such, the block goes the other way.
     fn settle_until(&mut self, block: usize, last: bool) -> Result<bool, Refusal> {
-        let mut next = self.first_child(block);
+        let mut next = self.links.first_child(block);
         while let Some(child) = next {
             if self.settle(child)? == last {
                 return Ok(last);
             }
-            next = self.next_sibling(child);
+            next = self.links.next_sibling(child);
         }
         Ok(!last)
     }
@@ -93,14 +79,14 @@ impl<'a> Run<'a> {
     /// All children, rising.
     fn settle_all(&mut self, block: usize) -> Result<Tally, Refusal> {
         let mut tally = Tally { worked: 0, failed: 0 };
-        let mut next = self.first_child(block);
+        let mut next = self.links.first_child(block);
         while let Some(child) = next {
             if self.settle(child)? {
                 tally.worked += 1;
             } else {
                 tally.failed += 1;
             }
-            next = self.next_sibling(child);
+            next = self.links.next_sibling(child);
         }
         Ok(tally)
     }
@@ -113,7 +99,7 @@ impl<'a> Run<'a> {
         if offers == 0 && choice == 0 {
             return Ok(false);
         }
-        let picked = self.child_at(xor, choice).filter(|&child| self.marks[child] == COMMITTED);
+        let picked = self.links.child_at(xor, choice).filter(|&child| self.marks[child] == COMMITTED);
         let picked = picked.ok_or(Refusal::Choice)?;
         self.decide(xor, picked);
         Ok(true)
@@ -121,37 +107,20 @@ impl<'a> Run<'a> {
 
     /// Turns down every offer but the picked one.
     fn decide(&mut self, xor: usize, picked: usize) {
-        let mut next = self.first_child(xor);
+        let mut next = self.links.first_child(xor);
         while let Some(child) = next {
             if child != picked && self.marks[child] == COMMITTED {
                 self.marks[child] = TURNED_DOWN;
             }
-            next = self.next_sibling(child);
+            next = self.links.next_sibling(child);
         }
     }
 
     /// Only the child that the answer asks for.
     fn settle_branch(&mut self, conditional: usize) -> Result<bool, Refusal> {
         let place = if self.answer_is_one(conditional)? { 1 } else { 2 };
-        let child = self.child_at(conditional, place).expect("a checked conditional has two children");
+        let child = self.links.child_at(conditional, place).expect("a checked conditional has two children");
         self.settle(child)
-    }
-
-    /// The child at a place counted from 1.
-    fn child_at(&self, block: usize, place: u8) -> Option<usize> {
-        let mut child = self.first_child(block);
-        for _ in 1..place {
-            child = self.next_sibling(child?);
-        }
-        child.filter(|_| place > 0)
-    }
-
-    fn first_child(&self, block: usize) -> Option<usize> {
-        somebody(self.first_child[block])
-    }
-
-    fn next_sibling(&self, child: usize) -> Option<usize> {
-        somebody(self.next_sibling[child])
     }
 }
 
@@ -159,8 +128,4 @@ impl<'a> Run<'a> {
 struct Tally {
     worked: usize,
     failed: usize,
-}
-
-fn somebody(link: u8) -> Option<usize> {
-    (link != NOBODY).then_some(usize::from(link))
 }

@@ -119,6 +119,58 @@ impl<'a> Plan<'a> {
     }
 }
 
+/// Stands for no node in the links.
+const NOBODY: u8 = 0xff;
+
+/// The children of every block, linked once, so that going along them looks at
+/// no other node.
+pub(crate) struct Links {
+    first_child: [u8; MAX_NODES],
+    next_sibling: [u8; MAX_NODES],
+}
+
+impl Links {
+    /// Going down the numbers puts the lowest child first.
+    pub(crate) fn new(plan: &Plan) -> Links {
+        let mut links = Links { first_child: [NOBODY; MAX_NODES], next_sibling: [NOBODY; MAX_NODES] };
+        for node in (1..plan.size()).rev() {
+            if let Some(parent) = plan.parent(node) {
+                links.next_sibling[node] = links.first_child[parent];
+                links.first_child[parent] = node as u8;
+            }
+        }
+        links
+    }
+
+    /// The first child of a block.
+    pub(crate) fn first_child(&self, block: usize) -> Option<usize> {
+        somebody(self.first_child[block])
+    }
+
+    /// The child behind this one.
+    pub(crate) fn next_sibling(&self, child: usize) -> Option<usize> {
+        somebody(self.next_sibling[child])
+    }
+
+    /// The children of a block, rising.
+    pub(crate) fn children(&self, block: usize) -> impl Iterator<Item = usize> + Clone {
+        std::iter::successors(self.first_child(block), |&child| self.next_sibling(child))
+    }
+
+    /// The child at a place counted from 1.
+    pub(crate) fn child_at(&self, block: usize, place: u8) -> Option<usize> {
+        let mut child = self.first_child(block);
+        for _ in 1..place {
+            child = self.next_sibling(child?);
+        }
+        child.filter(|_| place > 0)
+    }
+}
+
+fn somebody(link: u8) -> Option<usize> {
+    (link != NOBODY).then_some(usize::from(link))
+}
+
 /// Two bytes a node, if that comes out even and within the limit.
 fn split(bytes: &[u8]) -> Option<&[Node]> {
     match bytes.as_chunks() {

@@ -50,6 +50,10 @@ pub enum Refusal {
     Desk = 22,
     /// Marks that are not those of the pass over their answers.
     Marks = 28,
+    /// A mark or an end that can't be wanted.
+    Target = 29,
+    /// No list of answers leads to the target.
+    NoWay = 30,
 }
 
 impl Refusal {

@@ -76,6 +76,10 @@ fn exported_functions_do_not_allocate() {
     sum += exported::desk_record_by(&desks, &COMMON_TABLE, &rows, &mut marks, &mut notes);
     sum += exported::pass(&plan, &answers, &mut marks);
     sum += exported::impact(&plan, &answers, &mut marks, 5, 2);
+    for mark in 0..6 {
+        sum += exported::way(&plan, 4, mark, 3, &mut marks);
+        sum += exported::way(&plan, 4, mark, 4, &mut marks);
+    }
     sum += exported::record(&plan, &state, &mut marks, &mut notes);
     sum += exported::record_by(&plan, &COMMON_TABLE, &state, &mut marks, &mut notes);
     sum += exported::pass_record(&plan, &COMMON_TABLE, &answers, &mut marks, &mut notes);
