@@ -1,7 +1,7 @@
 //! The C archive, and the program `rehearse` beside it.
 
 use crate::driver::Step;
-use crate::implementation::{Change, Implementation, Slots};
+use crate::implementation::{Change, Implementation, Slots, Wanted};
 use crate::program::Program;
 use vulcedar::Entry;
 
@@ -46,6 +46,10 @@ impl Implementation for Archive {
 
     fn impact(&mut self, plan: &[u8], answers: &mut [u8], marks: &mut [u8], change: Change) -> u32 {
         vulcedar::impact(plan, answers, marks, change.task, change.answer)
+    }
+
+    fn way(&mut self, plan: &[u8], wanted: Wanted, answers: &mut [u8]) -> u32 {
+        vulcedar::way(plan, wanted.node, wanted.mark, wanted.end, answers)
     }
 
     fn simulate(&mut self, plan: &[u8], code: u32, node: u32, site: u32, state: &mut [u8]) -> u32 {

@@ -4,13 +4,14 @@
 use crate::codes::*;
 use crate::driver::{Step, Tree};
 use crate::form::{Form, Kept};
-use crate::implementation::{Change, Entry, Implementation, Reference, Slots};
+use crate::implementation::{Change, Entry, Implementation, Reference, Slots, Wanted};
 use crate::tables;
 use crate::texts::{OUT_BYTES, Sound};
 
 mod desks;
 mod impact;
 mod points;
+mod way;
 
 /// A mistake: those the document warns of, its worthless versions, and slips
 /// at the borders.
@@ -462,11 +463,69 @@ pub enum Mistake {
     TaskBeforeLengths,
     /// A change answers as a value how many marks are others.
     ChangeAnswersACount,
+    /// Of the lists that lead to a target the largest is given.
+    LargestWay,
+    /// Answers that the pass doesn't read are 1.
+    UnreadAnswersOne,
+    /// Answers that the pass doesn't read stay as they were.
+    UnreadAnswersStay,
+    /// Answers that lead to the target stay as they were.
+    AnswersThatLeadStay,
+    /// The end is not looked at.
+    EndNotLookedAt,
+    /// The mark is not looked at.
+    MarkNotLookedAt,
+    /// Where no list leads to a target, one with its end alone is given.
+    NoWayGivesTheEnd,
+    /// A child of an xor that offers counts as committed, picked or not.
+    OfferIsEnough,
+    /// There is no way to a committed node below a block that doesn't commit.
+    CommitsOnlyIfAllAboveDo,
+    /// There is no way to a node that isn't started if its parent isn't either.
+    OnlyTheParentLeavesOut,
+    /// 29 comes before 8.
+    TargetBeforeNode,
+    /// 8 and 29 come before 7.
+    TargetBeforeLength,
+    /// Mark 5 can't be wanted.
+    TurnedDownNotWanted,
+    /// Mark 0 can't be wanted.
+    NotStartedNotWanted,
+    /// Marks 1 and 2 can be wanted.
+    AnyMarkWanted,
+    /// Any mark can be wanted as the end.
+    AnyEndWanted,
+    /// The target's node is cut to a byte.
+    TargetNodeCut,
+    /// The target's mark is cut to a byte.
+    TargetMarkCut,
+    /// The target's end is cut to a byte.
+    TargetEndCut,
+    /// A call that is refused with 30 has already written answers.
+    RefusedWayWrites,
+    /// A way has its length as the value.
+    WayAnswersItsLength,
+    /// Picks are counted from 0.
+    PlacesFromZero,
+    /// The last child of an xor is never picked.
+    NeverTheLastChild,
+    /// The child at place 32 is never picked.
+    PlacesBelow32,
+    /// A conditional never answers no.
+    NeverNo,
+    /// Lists are compared subtree by subtree.
+    SubtreesInTurn,
+    /// Lists are compared from the last node on.
+    LastNodeFirst,
+    /// 0 is tried after all other answers.
+    ZeroLast,
+    /// An xor picks wherever one of its children can offer.
+    NoneOffersLast,
 }
 
 impl Mistake {
     /// All mistakes; the first is number 1.
-    pub const ALL: [Mistake; 221] = [
+    pub const ALL: [Mistake; 250] = [
         Mistake::CommitUnlessAbortHeard,
         Mistake::PickAtTheChild,
         Mistake::TurnedDownStillRuns,
@@ -688,6 +747,35 @@ impl Mistake {
         Mistake::TaskCut,
         Mistake::TaskBeforeLengths,
         Mistake::ChangeAnswersACount,
+        Mistake::LargestWay,
+        Mistake::UnreadAnswersOne,
+        Mistake::UnreadAnswersStay,
+        Mistake::AnswersThatLeadStay,
+        Mistake::EndNotLookedAt,
+        Mistake::MarkNotLookedAt,
+        Mistake::NoWayGivesTheEnd,
+        Mistake::OfferIsEnough,
+        Mistake::CommitsOnlyIfAllAboveDo,
+        Mistake::OnlyTheParentLeavesOut,
+        Mistake::TargetBeforeNode,
+        Mistake::TargetBeforeLength,
+        Mistake::TurnedDownNotWanted,
+        Mistake::NotStartedNotWanted,
+        Mistake::AnyMarkWanted,
+        Mistake::AnyEndWanted,
+        Mistake::TargetNodeCut,
+        Mistake::TargetMarkCut,
+        Mistake::TargetEndCut,
+        Mistake::RefusedWayWrites,
+        Mistake::WayAnswersItsLength,
+        Mistake::PlacesFromZero,
+        Mistake::NeverTheLastChild,
+        Mistake::PlacesBelow32,
+        Mistake::NeverNo,
+        Mistake::SubtreesInTurn,
+        Mistake::LastNodeFirst,
+        Mistake::ZeroLast,
+        Mistake::NoneOffersLast,
     ];
 }
 
@@ -1343,6 +1431,10 @@ impl Implementation for Broken {
 
     fn impact(&mut self, plan: &[u8], answers: &mut [u8], marks: &mut [u8], change: Change) -> u32 {
         impact::impact(self.mistake, plan, answers, marks, change)
+    }
+
+    fn way(&mut self, plan: &[u8], wanted: Wanted, answers: &mut [u8]) -> u32 {
+        way::way(self.mistake, plan, wanted, answers)
     }
 
     fn simulate(&mut self, plan: &[u8], code: u32, node: u32, site: u32, state: &mut [u8]) -> u32 {

@@ -4,7 +4,7 @@
 use crate::codes::*;
 use crate::driver::{STRANGE, Step, Tree};
 use crate::form::{Form, HIGHEST_DESK};
-use crate::implementation::{Change, Entry, Implementation};
+use crate::implementation::{Change, Entry, Implementation, Wanted};
 use crate::plans;
 use crate::random::Random;
 use crate::tables;
@@ -13,10 +13,12 @@ use crate::trial::Trial;
 mod desks;
 mod impact;
 mod points;
+mod way;
 
 pub use desks::{damaged_plans_with_desks, lengths_with_desks, own_desks};
 pub use impact::{every_small_plan, impacts};
 pub use points::points;
+pub use way::{every_target, ways};
 
 /// More than the longest guard.
 const LONG_BUFFER: usize = 300;
@@ -41,6 +43,8 @@ pub fn damaged_plans<S: Implementation, R: Implementation>(trial: &mut Trial<S, 
         trial.hear(&plan, code, node, &one);
         trial.pass(&plan, &one, &two);
         trial.impact(&plan, &one, &two, Change { task: node, answer: code });
+        trial.way(&plan, Wanted { node, mark: code, end: site }, &one);
+        trial.way(&plan, Wanted { node: 0, mark: 3, end: 3 }, &one);
         trial.simulate(&plan, code, node, site, &state);
         let (entries, count) =
             any_entries(random, |random| event(random, nodes), |random| any_node(random, nodes));
@@ -253,6 +257,8 @@ pub fn lengths<S: Implementation, R: Implementation>(
         trial.hear(plan, code, node, &one);
         trial.pass(plan, &one, &two);
         trial.impact(plan, &one, &two, Change { task: node, answer: code });
+        trial.way(plan, Wanted { node, mark: code, end: site }, &one);
+        trial.way(plan, Wanted { node, mark: 3, end: 3 }, &one);
         trial.simulate(plan, code, node, site, &state);
         let (entries, count) =
             any_entries(random, |random| event(random, nodes), |random| any_node(random, nodes));

@@ -10,6 +10,7 @@ use crate::trial::{Trial, hex};
 mod desks;
 mod impact;
 mod points;
+mod way;
 
 /// Plan P of document 01.
 const P: [u8; 12] = [SERIAL, 0xff, TASK, 0, XOR, 0, TASK, 2, TASK, 2, TASK, 0];
@@ -29,12 +30,13 @@ pub fn run<S: Implementation, R: Implementation>(trial: &mut Trial<S, R>) {
     points::run(trial);
     desks::run(trial);
     impact::run(trial);
+    way::run(trial);
 }
 
-/// Version 1.4.0.
+/// Version 1.5.0.
 fn version<S: Implementation, R: Implementation>(trial: &mut Trial<S, R>) {
     let version = trial.version();
-    trial.tally.compare(version == 0x01_0400, || format!("the version is {version:08x}"));
+    trial.tally.compare(version == 0x01_0500, || format!("the version is {version:08x}"));
 }
 
 /// A guard: the event, its rule, and what must be written.

@@ -22,6 +22,17 @@ pub struct Change {
     pub answer: u32,
 }
 
+/// What is wanted of a pass; any numbers may be asked for.
+#[derive(Clone, Copy, Debug, PartialEq, Eq)]
+pub struct Wanted {
+    /// A node.
+    pub node: u32,
+    /// The mark that it is to have.
+    pub mark: u32,
+    /// The mark that the root is to have.
+    pub end: u32,
+}
+
 /// An implementation of the rules, behind the interface of the C archive.
 /// Results are packed in the same way.
 pub trait Implementation {
@@ -44,6 +55,8 @@ pub trait Implementation {
     /// The single pass with one answer changed. The answers stay; they could be
     /// written, so that it can be seen that they are not.
     fn impact(&mut self, plan: &[u8], answers: &mut [u8], marks: &mut [u8], change: Change) -> u32;
+    /// The smallest answers with which the pass leaves what is wanted.
+    fn way(&mut self, plan: &[u8], wanted: Wanted, answers: &mut [u8]) -> u32;
     /// A step of a simulation.
     fn simulate(&mut self, plan: &[u8], code: u32, node: u32, site: u32, state: &mut [u8]) -> u32;
     /// A step of a simulation that is kept as an entry.
@@ -199,6 +212,10 @@ impl Implementation for Reference {
 
     fn impact(&mut self, plan: &[u8], answers: &mut [u8], marks: &mut [u8], change: Change) -> u32 {
         exported::impact(plan, answers, marks, change.task, change.answer)
+    }
+
+    fn way(&mut self, plan: &[u8], wanted: Wanted, answers: &mut [u8]) -> u32 {
+        exported::way(plan, wanted.node, wanted.mark, wanted.end, answers)
     }
 
     fn simulate(&mut self, plan: &[u8], code: u32, node: u32, site: u32, state: &mut [u8]) -> u32 {

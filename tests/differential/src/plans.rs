@@ -95,6 +95,16 @@ fn star(random: &mut Random, nodes: usize) -> Vec<u8> {
     plan
 }
 
+/// Two blocks below the root, and two or three tasks of theirs that stand among
+/// each other.
+pub fn mixed(random: &mut Random) -> Vec<u8> {
+    let mut plan = vec![block_with_one_child(random), NO_PARENT];
+    (0..2).for_each(|_| plan.extend([block_with_one_child(random), 0]));
+    let parents = random.one_of(&[&[2, 1][..], &[2, 1, 1], &[2, 1, 2], &[1, 2, 1]]);
+    parents.iter().for_each(|&parent| plan.extend([TASK, parent]));
+    plan
+}
+
 /// A plan that grows node by node and stays completable: there is always
 /// space for the children that blocks still owe.
 struct Grower<'r> {

@@ -21,6 +21,8 @@ pub const ONLY_CHILD_PART: u64 = 1 << 39;
 pub const CASES_PART: u64 = ONLY_CHILD_PART + 1;
 /// The part that changes one answer in every small plan.
 pub const SMALL_PLANS_PART: u64 = ONLY_CHILD_PART + 2;
+/// The part with every target of every small plan.
+pub const TARGETS_PART: u64 = ONLY_CHILD_PART + 3;
 /// The place of the parts with hosts.
 pub const HOSTS_PART: u64 = 23;
 /// The place of the parts with lists of moves.
@@ -29,6 +31,8 @@ pub const JOURNALS_PART: u64 = 25;
 pub const POINTS_PART: u64 = 27;
 /// The place of the parts in which one answer is changed.
 pub const IMPACT_PART: u64 = 29;
+/// The place of the parts in which ways are looked for.
+pub const WAYS_PART: u64 = 30;
 /// The first place of the parts with desks; they end a turn.
 pub const DESKS_PART: u64 = 32;
 /// The place of the parts with calls in both forms of a plan.
@@ -85,7 +89,7 @@ pub fn run_against(subject: impl Implementation, reference: impl Implementation,
         run_part(&mut trial, options.seed, part);
         part += 1;
     }
-    for part in [ONLY_CHILD_PART, CASES_PART, SMALL_PLANS_PART] {
+    for part in [ONLY_CHILD_PART, CASES_PART, SMALL_PLANS_PART, TARGETS_PART] {
         if trial.tally.differences() < options.enough {
             run_part(&mut trial, options.seed, part);
         }
@@ -113,6 +117,9 @@ fn run_part<S: Implementation, R: Implementation>(trial: &mut Trial<S, R>, seed:
     if part == SMALL_PLANS_PART {
         return calls::every_small_plan(trial);
     }
+    if part == TARGETS_PART {
+        return calls::every_target(trial);
+    }
     let plan = if part % (4 * TURN) == 47 { large_plan(random) } else { any_plan(random) };
     let place = part % TURN;
     if place >= DESKS_PART {
@@ -134,6 +141,7 @@ fn run_part<S: Implementation, R: Implementation>(trial: &mut Trial<S, R>, seed:
         27 => all_points(trial, random),
         28 => calls::points(trial, random, &plan, 40),
         IMPACT_PART => calls::impacts(trial, random, &plan),
+        WAYS_PART => calls::ways(trial, random, &plan),
         7 => job::simulate(trial, random, &plan),
         8 | 9 => jobs(trial, random, 20, 60, 1),
         10..=15 => jobs(trial, random, 8, 20, 1),

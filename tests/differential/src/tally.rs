@@ -26,6 +26,8 @@ pub enum Function {
     Pass,
     /// `vulcedar_impact`
     Impact,
+    /// `vulcedar_way`
+    Way,
     /// `vulcedar_simulate`
     Simulate,
     /// `vulcedar_keep`
@@ -76,9 +78,9 @@ pub enum Function {
 }
 
 /// How many functions there are.
-const FUNCTIONS: usize = 32;
+const FUNCTIONS: usize = 33;
 /// One more than the highest number; 0 is passed.
-const NUMBERS: usize = 29;
+const NUMBERS: usize = 31;
 
 impl Function {
     /// All of them, in the order of the table.
@@ -92,6 +94,7 @@ impl Function {
         Function::Hear,
         Function::Pass,
         Function::Impact,
+        Function::Way,
         Function::Simulate,
         Function::Keep,
         Function::Undo,
@@ -129,6 +132,7 @@ impl Function {
             Function::Hear => "hear",
             Function::Pass => "pass",
             Function::Impact => "impact",
+            Function::Way => "way",
             Function::Simulate => "simulate",
             Function::Keep => "keep",
             Function::Undo => "undo",
@@ -165,6 +169,7 @@ impl Function {
             Function::Step => &[0, 1, 2, 3, 4, 5, 6, 7, 8, 9, 10, 11],
             Function::Pass => &[0, 1, 2, 3, 4, 5, 6, 7, 13, 14],
             Function::Impact => &[0, 1, 2, 3, 4, 5, 6, 7, 8, 9, 13, 14, 28],
+            Function::Way => &[0, 1, 2, 3, 4, 5, 6, 7, 8, 29, 30],
             Function::Simulate | Function::Keep => &[0, 1, 2, 3, 4, 5, 6, 7, 8, 9, 10, 11, 12],
             Function::Undo | Function::PointUndo => &[0, 1, 2, 3, 4, 5, 6, 7, 8, 9, 16],
             Function::PointName => &[0, 7, 20],
@@ -244,6 +249,14 @@ pub struct Jobs {
     /// Of these, with other marks behind the task too, in a block that takes
     /// its children in turn.
     pub in_later_subtrees: u64,
+    /// Ways that were found.
+    pub ways: u64,
+    /// Targets without one.
+    pub without_way: u64,
+    /// Targets that were held against a list of answers that leads there.
+    pub against_one_list: u64,
+    /// Targets that were held against every list of answers.
+    pub against_all_lists: u64,
 }
 
 /// A count for each rule byte.
@@ -255,10 +268,19 @@ impl Default for Rules {
     }
 }
 
+/// A count for each function and number.
+struct Numbers([[u64; NUMBERS]; FUNCTIONS]);
+
+impl Default for Numbers {
+    fn default() -> Numbers {
+        Numbers([[0; NUMBERS]; FUNCTIONS])
+    }
+}
+
 /// The counts of a run.
 #[derive(Default)]
 pub struct Tally {
-    counts: [[u64; NUMBERS]; FUNCTIONS],
+    counts: Numbers,
     /// How often the central rule allowed an event, and how often not.
     pub allowed: u64,
     /// See `allowed`.
@@ -279,7 +301,7 @@ pub struct Tally {
 impl Tally {
     /// Counts an answer of the reference.
     pub fn count(&mut self, function: Function, number: u8) {
-        self.counts[function as usize][usize::from(number) % NUMBERS] += 1;
+        self.counts.0[function as usize][usize::from(number) % NUMBERS] += 1;
     }
 
     /// Counts an event that passed by a rule.
@@ -330,7 +352,7 @@ impl Tally {
     }
 
     fn calls(&self, function: Function) -> u64 {
-        self.counts[function as usize].iter().sum()
+        self.counts.0[function as usize].iter().sum()
     }
 
     /// Numbers that can occur and didn't.
@@ -339,7 +361,7 @@ impl Tally {
         let wanted =
             all.flat_map(|function| function.numbers().iter().map(move |&number| (function, number)));
         wanted
-            .filter(|&(function, number)| self.counts[function as usize][usize::from(number)] == 0)
+            .filter(|&(function, number)| self.counts.0[function as usize][usize::from(number)] == 0)
             .collect()
     }
 }
@@ -355,7 +377,7 @@ impl fmt::Display for Tally {
         for function in Function::ALL {
             write!(out, "\n{:<15}", function.name())?;
             for number in &used {
-                let count = self.counts[function as usize][usize::from(*number)];
+                let count = self.counts.0[function as usize][usize::from(*number)];
                 if function.numbers().contains(number) || count > 0 {
                     write!(out, "{count:>9}")?;
                 } else {
@@ -402,6 +424,11 @@ impl fmt::Display for Tally {
             out,
             "one answer changed: {} passed, {} with other marks, {} of these in later subtrees too",
             jobs.changes, jobs.with_other_marks, jobs.in_later_subtrees
+        )?;
+        writeln!(
+            out,
+            "ways: {} found, {} targets without; {} held against a list that leads there, {} against every list",
+            jobs.ways, jobs.without_way, jobs.against_one_list, jobs.against_all_lists
         )?;
         writeln!(out, "rules of passed events: {} different", self.rules())?;
         writeln!(out, "texts: {}", self.texts)?;

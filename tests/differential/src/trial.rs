@@ -12,6 +12,9 @@ use crate::tally::{Function, Tally};
 
 mod impact;
 mod points;
+mod way;
+
+pub use way::without_unread;
 
 /// Both sides, and what has been counted.
 pub struct Trial<S, R> {

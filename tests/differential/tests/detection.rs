@@ -5,7 +5,7 @@ use differential::Reference;
 use differential::broken::{Broken, Mistake};
 use differential::run::{CASES_PART, HOSTS_PART, JOURNALS_PART, ONLY_CHILD_PART, POINTS_PART, TURN};
 use differential::run::{DESK_JOBS_PART, DESK_MOVES_PART, DESK_POINTS_PART, ONE_DESK_PART, OWN_DESKS_PART};
-use differential::run::{IMPACT_PART, SMALL_PLANS_PART};
+use differential::run::{IMPACT_PART, SMALL_PLANS_PART, TARGETS_PART, WAYS_PART};
 use differential::run::{Options, run, run_against};
 use differential::tally::Tally;
 
@@ -21,9 +21,15 @@ fn of_desks() -> impl Iterator<Item = Mistake> {
     before_impact.skip_while(|&mistake| mistake != Mistake::RowsByFirstUse)
 }
 
-/// The mistakes where one answer is changed; they stand at the end.
+/// The mistakes where one answer is changed.
 fn of_impact() -> impl Iterator<Item = Mistake> {
-    Mistake::ALL.into_iter().skip_while(|&mistake| mistake != Mistake::MarksBeforeFaults)
+    let before_ways = Mistake::ALL.into_iter().take_while(|&mistake| mistake != Mistake::LargestWay);
+    before_ways.skip_while(|&mistake| mistake != Mistake::MarksBeforeFaults)
+}
+
+/// The mistakes where a way is looked for; they stand at the end.
+fn of_ways() -> impl Iterator<Item = Mistake> {
+    Mistake::ALL.into_iter().skip_while(|&mistake| mistake != Mistake::LargestWay)
 }
 
 /// These parts find nothing between two copies of the reference, in each of
@@ -64,6 +70,8 @@ fn two_copies_of_the_reference_agree() {
     assert!(tally.desk_steps() > 30_000 && tally.jobs.at_one_desk > 3000, "{}", tally.desk_steps());
     assert!(tally.jobs.in_both_forms > 1000, "{}", tally.jobs.in_both_forms);
     assert!(tally.jobs.changes > 10_000 && tally.jobs.in_later_subtrees > 1000, "{}", tally.jobs.changes);
+    assert!(tally.jobs.ways > 10_000 && tally.jobs.without_way > 10_000, "{}", tally.jobs.ways);
+    assert!(tally.jobs.against_one_list > 500, "{}", tally.jobs.against_one_list);
 }
 
 #[test]
@@ -163,7 +171,9 @@ fn a_mistake_on_both_sides_is_found() {
         Mistake::HearRefusesRepeats,
     ];
     let options = Options { seed: 15, steps: 1_000_000, texts: 0, enough: 1, only: None };
-    for mistake in mistakes.into_iter().chain(of_points()).chain(of_desks()).chain(of_impact()) {
+    for mistake in
+        mistakes.into_iter().chain(of_points()).chain(of_desks()).chain(of_impact()).chain(of_ways())
+    {
         let tally = run_against(Broken::new(mistake), Broken::new(mistake), options);
         assert_ne!(tally.differences(), 0, "{mistake:?} on both sides is not found");
         assert!(tally.part < ONLY_CHILD_PART, "{mistake:?} is found in the fixed parts alone");
@@ -176,7 +186,7 @@ fn a_mistake_on_both_sides_is_found() {
 fn cases_have_their_answers() {
     let options = Options { only: Some(CASES_PART), ..Options::default() };
     let tally = run(Reference, options);
-    assert_eq!((tally.comparisons(), tally.differences()), (260, 0), "{:#?}", tally.described());
+    assert_eq!((tally.comparisons(), tally.differences()), (402, 0), "{:#?}", tally.described());
     let mistakes = [
         Mistake::VersionInTheLowestByte,
         Mistake::VersionOneHigher,
@@ -206,7 +216,9 @@ fn cases_have_their_answers() {
         Mistake::UndoRewritesTheEntry,
         Mistake::RefusedUndoCounts,
     ];
-    for mistake in mistakes.into_iter().chain(of_points()).chain(of_desks()).chain(of_impact()) {
+    for mistake in
+        mistakes.into_iter().chain(of_points()).chain(of_desks()).chain(of_impact()).chain(of_ways())
+    {
         let tally = run_against(Broken::new(mistake), Broken::new(mistake), options);
         assert_ne!(tally.differences(), 0, "{mistake:?} on both sides is not found");
     }
@@ -420,6 +432,52 @@ fn every_small_plan_is_tried() {
         Mistake::LargeAnswerFreeWhereUnreached,
         Mistake::MarksOfTheNewAnswers,
         Mistake::ChangeAnswersACount,
+    ];
+    for mistake in mistakes {
+        let tally = run_against(Broken::new(mistake), Broken::new(mistake), options);
+        assert_ne!(tally.differences(), 0, "{mistake:?} on both sides is not found");
+    }
+}
+
+/// Ways alone find what is wrong with them, even if both sides do it: by the
+/// pass over them, by lists that are known to lead there, and in small plans by
+/// every list.
+#[test]
+fn ways_are_held_against_the_pass_and_all_lists() {
+    let mistakes: Vec<Mistake> = of_ways().collect();
+    parts_find([WAYS_PART, 30], 25, |tally| tally.jobs.against_all_lists, &mistakes);
+}
+
+/// All targets of all small plans find these too, even if both sides make them.
+/// What they don't try are targets that are wrong, other answers before, and
+/// wide xors.
+#[test]
+fn every_target_is_tried() {
+    let options = Options { only: Some(TARGETS_PART), enough: 1, ..Options::default() };
+    let tally = run(Reference, options);
+    assert_eq!(tally.differences(), 0, "{:#?}", tally.described());
+    assert!(tally.jobs.against_all_lists > 100_000, "{}", tally.jobs.against_all_lists);
+    let mistakes = [
+        Mistake::LargestWay,
+        Mistake::UnreadAnswersOne,
+        Mistake::UnreadAnswersStay,
+        Mistake::EndNotLookedAt,
+        Mistake::MarkNotLookedAt,
+        Mistake::NoWayGivesTheEnd,
+        Mistake::OfferIsEnough,
+        Mistake::CommitsOnlyIfAllAboveDo,
+        Mistake::OnlyTheParentLeavesOut,
+        Mistake::TurnedDownNotWanted,
+        Mistake::NotStartedNotWanted,
+        Mistake::RefusedWayWrites,
+        Mistake::WayAnswersItsLength,
+        Mistake::PlacesFromZero,
+        Mistake::NeverTheLastChild,
+        Mistake::NeverNo,
+        Mistake::SubtreesInTurn,
+        Mistake::LastNodeFirst,
+        Mistake::ZeroLast,
+        Mistake::NoneOffersLast,
     ];
     for mistake in mistakes {
         let tally = run_against(Broken::new(mistake), Broken::new(mistake), options);

@@ -85,6 +85,15 @@ pub fn impact(plan: &[u8], answers: &[u8], marks: &mut [u8], task: u32, answer: 
     }
 }
 
+/// The smallest list of answers with which the pass leaves a mark at a node and
+/// an end at the root.
+pub fn way(plan: &[u8], node: u32, mark: u32, end: u32, answers: &mut [u8]) -> u32 {
+    // SAFETY: as for `rewrite`.
+    unsafe {
+        raw::vulcedar_way(plan.as_ptr(), plan.len(), node, mark, end, answers.as_mut_ptr(), answers.len())
+    }
+}
+
 /// A step of a simulation: an event if the site is 255, else a message to
 /// that site. The value is the rule of an event that passes.
 pub fn simulate(plan: &[u8], code: u32, node: u32, site: u32, state: &mut [u8]) -> u32 {

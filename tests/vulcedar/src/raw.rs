@@ -64,6 +64,16 @@ unsafe extern "C" {
         answer: u32,
     ) -> u32;
 
+    pub fn vulcedar_way(
+        plan: *const u8,
+        plan_length: usize,
+        node: u32,
+        mark: u32,
+        end: u32,
+        answers: *mut u8,
+        answers_length: usize,
+    ) -> u32;
+
     pub fn vulcedar_simulate(
         plan: *const u8,
         plan_length: usize,
