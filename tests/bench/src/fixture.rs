@@ -4,7 +4,7 @@
 use differential::codes::*;
 use differential::driver::{Driver, Step, Temper, Tree};
 use differential::form::{Form, Seats};
-use differential::implementation::Change;
+use differential::implementation::{Change, Wanted};
 use differential::random::Random;
 use differential::{Implementation, Reference};
 
@@ -44,6 +44,10 @@ pub struct Fixture {
     pub passed: Vec<u8>,
     /// The tasks that the pass comes to, and of which each alone may fail.
     pub tasks: Vec<u32>,
+    /// Each node committed, with the root, and failed, with the root.
+    pub ways: Vec<Wanted>,
+    /// Targets that have no way, one at each node.
+    pub no_ways: Vec<Wanted>,
     /// A text as long as may be: a job of the plan, then each of the steps
     /// again and again. A plan with desks has none.
     pub text: Vec<u8>,
@@ -78,7 +82,23 @@ impl Fixture {
         let text = if form == Form::Plain { long_text(&plan, &whole.steps, &steps) } else { vec![] };
         let answers = vec![1; nodes];
         let (passed, tasks) = changeable(&form.plain(&plan), &answers);
-        Fixture { form, nodes, events, steps, state, marks, notes, answers, passed, tasks, text, plan }
+        let (ways, no_ways) = targets(&form.plain(&plan), nodes);
+        Fixture {
+            form,
+            nodes,
+            events,
+            steps,
+            state,
+            marks,
+            notes,
+            answers,
+            passed,
+            tasks,
+            ways,
+            no_ways,
+            text,
+            plan,
+        }
     }
 }
 
@@ -152,6 +172,18 @@ fn changeable(plan: &[u8], answers: &[u8]) -> (Vec<u8>, Vec<u32>) {
     (marks, tasks)
 }
 
+/// Targets that have a way, two at each node, and targets that have none.
+fn targets(plan: &[u8], nodes: usize) -> (Vec<Wanted>, Vec<Wanted>) {
+    let nodes = 0..nodes as u32;
+    let same = |node| [3, 4].map(|end| Wanted { node, mark: end, end });
+    let other = |node| {
+        let targets = [(5, 4), (0, 3), (5, 3), (0, 4)].map(|(mark, end)| Wanted { node, mark, end });
+        let mut answers = vec![0; plan.len() / 2];
+        targets.into_iter().find(|&wanted| Reference.way(plan, wanted, &mut answers) == 30)
+    };
+    (nodes.clone().flat_map(same).collect(), nodes.filter_map(other).collect())
+}
+
 /// A plan and steps as text, full to the last line.
 fn long_text(plan: &[u8], job: &[Step], steps: &[PlacedStep]) -> Vec<u8> {
     let mut text: String = plan.chunks(2).map(|node| format!("{:02x}{:02x}\n", node[0], node[1])).collect();
@@ -217,6 +249,11 @@ mod tests {
             assert_eq!(number(result), 0, "{nodes}");
             assert!(fixture.text.len() > LONGEST_TEXT - 7, "{nodes}: {}", fixture.text.len());
             assert!(fixture.tasks.len() > nodes / 4, "{nodes}: {:?}", fixture.tasks);
+            let mut answers = vec![0; nodes];
+            let mut number = |&wanted: &Wanted| Reference.way(&fixture.plan, wanted, &mut answers);
+            assert!(fixture.ways.len() == 2 * nodes && fixture.no_ways.len() > nodes / 2, "{nodes}");
+            assert!(fixture.ways.iter().all(|wanted| number(wanted) == 0), "{nodes}");
+            assert!(fixture.no_ways.iter().all(|wanted| number(wanted) == 30), "{nodes}");
         }
     }
 

@@ -1,10 +1,12 @@
 //! Measures each exported function of the C archive against the reference,
 //! a step at a desk against one at a site, and a whole job by simulate: same
-//! inputs, in turn, medians of many rounds.
+//! inputs, in turn, medians of many rounds. At the end the slowest ways of large
+//! plans.
 
 mod fixture;
 mod job;
 mod measure;
+mod slowest;
 mod work;
 
 use differential::{Implementation, Reference};
@@ -39,7 +41,8 @@ struct Options {
     /// How often each side is measured.
     rounds: usize,
     /// Only this function; "job" is the whole job, "typing" what an editor
-    /// waits for, "desks" a step at a desk beside one at a site.
+    /// waits for, "desks" a step at a desk beside one at a site, "slowest" the
+    /// slowest ways.
     only: Option<String>,
 }
 
@@ -100,6 +103,9 @@ fn compare(name: &str, subject: &mut impl Implementation, options: &Options) -> 
     }
     if options.wants("job") {
         compare_job(name, subject, options.rounds.div_ceil(10))?;
+    }
+    if options.wants("slowest") {
+        print_slowest(name, subject);
     }
     Ok(())
 }
@@ -174,6 +180,35 @@ fn compare_job(name: &str, subject: &mut impl Implementation, rounds: usize) -> 
         medians.ratio()
     );
     Ok(())
+}
+
+/// The slowest target of each shape, of the subject alone, among those that have
+/// a way and among those that have none.
+fn print_slowest(name: &str, subject: &mut impl Implementation) {
+    let alone = format!("{name} alone");
+    println!(
+        "{alone:<40}{:>6}{:>12}  {:<14}{:>12}  node mark end",
+        "nodes", "way ns", "node mark end", "no way ns"
+    );
+    for (shape, plan) in slowest::shapes() {
+        let [way, no_way] = {
+            let slowest::Slowest { way, no_way } = slowest::slowest(subject, &plan);
+            [way, no_way].map(|timed| match timed {
+                Some(slowest::Timed { wanted, time }) => {
+                    (format!("{time:.0}"), format!("{} {} {}", wanted.node, wanted.mark, wanted.end))
+                }
+                None => ("-".to_string(), String::new()),
+            })
+        };
+        println!(
+            "{shape:<40}{:>6}{:>12}  {:<14}{:>12}  {}",
+            plan.len() / 2,
+            way.0,
+            way.1,
+            no_way.0,
+            no_way.1
+        );
+    }
 }
 
 fn print_heading(name: &str, theirs: &str, ours: &str) {

@@ -4,14 +4,14 @@
 use crate::fixture::{Fixture, PlacedStep};
 use differential::Implementation;
 use differential::driver::Step;
-use differential::implementation::{Change, Entry, Slots};
+use differential::implementation::{Change, Entry, Slots, Wanted};
 use differential::slots::{Name, SLOTS};
 use differential::tables::COMMON;
 use differential::texts::OUT_BYTES;
 use std::hint::black_box;
 
 /// The measured functions.
-pub const NAMES: [&str; 30] = [
+pub const NAMES: [&str; 32] = [
     "check",
     "depths",
     "rewrite",
@@ -21,6 +21,8 @@ pub const NAMES: [&str; 30] = [
     "hear",
     "pass",
     "impact",
+    "way",
+    "no_way",
     "simulate",
     "keep",
     "undo",
@@ -141,6 +143,8 @@ impl Work {
             "check_table" | "pass_record" | "point_name" | "point_full" => CALLS,
             "rehearse" => 1,
             "impact" => 2 * self.fixture.tasks.len(),
+            "way" => self.fixture.ways.len(),
+            "no_way" => self.fixture.no_ways.len(),
             KEY => 2 * self.fixture.plan.len(),
             "simulate" | "keep" | "undo" | "point_undo" | "point_back" => self.fixture.steps.len(),
             _ => self.fixture.events.len(),
@@ -180,6 +184,8 @@ impl Work {
             }),
             "rehearse" => subject.rehearse(black_box(&self.fixture.text), &mut self.lines),
             "impact" => self.impacts(subject),
+            "way" => self.ways(subject, |fixture| &fixture.ways),
+            "no_way" => self.ways(subject, |fixture| &fixture.no_ways),
             "guard" => self.guards(subject),
             "rule" => self.rules(subject),
             "step" => self.steps(subject),
@@ -235,6 +241,16 @@ impl Work {
             }
         }
         sum
+    }
+
+    /// Each of these targets.
+    fn ways(&mut self, subject: &mut impl Implementation, targets: fn(&Fixture) -> &[Wanted]) -> u32 {
+        let plan = black_box(&self.fixture.plan);
+        let out = &mut self.out;
+        targets(&self.fixture).iter().fold(0, |sum, &wanted| {
+            let result = subject.way(plan, wanted, out);
+            mix(sum, result + u32::from(out[wanted.node as usize]))
+        })
     }
 
     fn guards(&mut self, subject: &mut impl Implementation) -> u32 {
@@ -381,7 +397,9 @@ mod tests {
             let fixture = if takes_desks(function) { Fixture::with_desks(40) } else { Fixture::new(40) };
             let mut work = Work::new(function, &fixture);
             let (state, passed) = (work.fixture.state.clone(), work.fixture.passed.clone());
+            work.out.fill(0);
             let first = work.run(&mut Reference);
+            work.out.fill(0);
             assert_eq!(work.run(&mut Reference), first, "{function}");
             assert_eq!(work.fixture.state, state, "{function}");
             assert_eq!(work.fixture.passed, passed, "{function}");
