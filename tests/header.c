@@ -1,7 +1,7 @@
 /*
  * What include/vulcedar.h and docs/GUIDE.md say about calling, tried: null pointers with length 0, where a result has a
  * site, the rule beside a guard, the common table, the version, a journal and its points, plans with desks, one answer of a
- * pass changed, and what a false message does. Compiled as C and as C++.
+ * pass changed, the way to each target of a plan, and what a false message does. Compiled as C and as C++.
  */
 #include <inttypes.h>
 #include <stdio.h>
@@ -17,6 +17,7 @@ LAYOUT(entry_behind, offsetof(vulcedar_entry, site) == 2 && offsetof(vulcedar_en
 LAYOUT(points, sizeof(vulcedar_points) == 256 && offsetof(vulcedar_points, names) == 0 && offsetof(vulcedar_points, places) == 128);
 LAYOUT(limits, VULCEDAR_POINTS_MOST == 16 && VULCEDAR_NAME_LENGTH == 8 && VULCEDAR_UNKNOWN_POINT == 19 && VULCEDAR_NO_FREE_POINT == 20);
 LAYOUT(marks, VULCEDAR_BAD_MARKS == 28 && VULCEDAR_BAD_ANSWER == 13 && VULCEDAR_BAD_PICK == 14);
+LAYOUT(targets, VULCEDAR_BAD_TARGET == 29 && VULCEDAR_NO_WAY == 30);
 LAYOUT(desks, VULCEDAR_DESK_HIGHEST == 0x9f && VULCEDAR_BAD_DESK == 22 && VULCEDAR_DESK_HIGHEST + 1 == VULCEDAR_NODES_MOST);
 
 static int wrong;
@@ -52,6 +53,7 @@ static void nulls(void)
     expect("hear of nothing", vulcedar_hear(NULL, 0, VULCEDAR_START, 0, NULL, 0), VULCEDAR_BAD_LENGTH);
     expect("pass of nothing", vulcedar_pass(NULL, 0, NULL, 0, NULL, 0), VULCEDAR_BAD_LENGTH);
     expect("a change in nothing", vulcedar_impact(NULL, 0, NULL, 0, NULL, 0, 0, 1), VULCEDAR_BAD_LENGTH);
+    expect("a way in nothing", vulcedar_way(NULL, 0, 0, VULCEDAR_COMMITTED, VULCEDAR_COMMITTED, NULL, 0), VULCEDAR_BAD_LENGTH);
     expect("simulate of nothing", vulcedar_simulate(NULL, 0, VULCEDAR_START, 0, 0, NULL, 0), VULCEDAR_BAD_LENGTH);
     expect("keep of nothing", vulcedar_keep(NULL, 0, VULCEDAR_START, 0, 0, NULL, 0, NULL, 0, &count), VULCEDAR_BAD_LENGTH);
     expect("undo of nothing", vulcedar_undo(NULL, 0, NULL, 0, NULL, 0, &count), VULCEDAR_BAD_LENGTH);
@@ -75,6 +77,7 @@ static void nulls(void)
     expect("hear on nothing", vulcedar_hear(plan, sizeof plan, VULCEDAR_START, 0, NULL, 0), VULCEDAR_BAD_BUFFER);
     expect("pass without answers", vulcedar_pass(plan, sizeof plan, NULL, 0, NULL, 0), VULCEDAR_BAD_BUFFER);
     expect("a change without answers", vulcedar_impact(plan, sizeof plan, NULL, 0, NULL, 0, 0, 1), VULCEDAR_BAD_BUFFER);
+    expect("a way into nothing", vulcedar_way(plan, sizeof plan, 0, VULCEDAR_COMMITTED, VULCEDAR_COMMITTED, NULL, 0), VULCEDAR_BAD_BUFFER);
     expect("simulate on nothing", vulcedar_simulate(plan, sizeof plan, VULCEDAR_START, 0, VULCEDAR_HAPPENS, NULL, 0), VULCEDAR_BAD_BUFFER);
     expect("keep on nothing", vulcedar_keep(plan, sizeof plan, VULCEDAR_START, 0, VULCEDAR_HAPPENS, NULL, 0, NULL, 0, &count), VULCEDAR_BAD_BUFFER);
     expect("keep in no journal", vulcedar_keep(plan, sizeof plan, VULCEDAR_START, 0, VULCEDAR_HAPPENS, state, 1, NULL, 0, &count), VULCEDAR_BAD_BUFFER);
@@ -610,6 +613,64 @@ static void unchanged(void)
     }
 }
 
+/* A target, over bytes that mean nothing; and whether they are left where it is refused. */
+static uint32_t look(uint32_t node, uint32_t mark, uint32_t end, uint8_t answers[5])
+{
+    static const uint8_t left[] = { 99, 99, 99, 99, 99 };
+    memcpy(answers, left, 5);
+    uint32_t r = vulcedar_way(staged, sizeof staged, node, mark, end, answers, 5);
+    if (r != VULCEDAR_PASSED) expect("refused answers are left", memcmp(answers, left, 5) == 0, 1);
+    return r;
+}
+
+/* The next list of bytes 0 to 3 in rising order, which are all that mean something here, and one that means nothing. */
+static int next_list(uint8_t answers[5])
+{
+    for (size_t v = 5; v-- > 0;) {
+        if (answers[v] < 3) return answers[v]++, 1;
+        answers[v] = 0;
+    }
+    return 0;
+}
+
+/* Every target: the way there is the first of all lists that the pass accepts with both marks. */
+static void ways(void)
+{
+    static const uint32_t wanted[] = { VULCEDAR_NOT_STARTED, VULCEDAR_COMMITTED, VULCEDAR_FAILED, VULCEDAR_TURNED_DOWN };
+    static const uint8_t turned[] = { 0, 2, 1, 1, 0 }, failed[] = { 0, 0, 2, 2, 2 };
+    uint8_t answers[5], list[5], marks[5];
+    expect("the first wording is turned down", look(2, VULCEDAR_TURNED_DOWN, VULCEDAR_COMMITTED, answers), VULCEDAR_PASSED);
+    expect("its answers", memcmp(answers, turned, 5) == 0, 1);
+    expect("all fail", look(0, VULCEDAR_FAILED, VULCEDAR_FAILED, answers), VULCEDAR_PASSED);
+    expect("their answers", memcmp(answers, failed, 5) == 0, 1);
+    expect("a wording commits, and the job fails", look(2, VULCEDAR_COMMITTED, VULCEDAR_FAILED, answers), VULCEDAR_NO_WAY);
+    for (uint32_t node = 0; node < 5; node++)
+        for (uint32_t target = 0; target < 8; target++) {
+            uint32_t mark = wanted[target / 2], end = target % 2 ? VULCEDAR_FAILED : VULCEDAR_COMMITTED;
+            int more = 1;
+            memset(list, 0, 5);
+            while (more && (vulcedar_pass(staged, sizeof staged, list, 5, marks, 5) != VULCEDAR_PASSED || marks[node] != mark || marks[0] != end)) more = next_list(list);
+            expect("a target", look(node, mark, end, answers), more ? VULCEDAR_PASSED : VULCEDAR_NO_WAY);
+            if (more) expect("the way there", memcmp(answers, list, 5) == 0, 1);
+            if (mark == end) expect("every node can commit and fail", more == 1, 1);
+        }
+}
+
+/* The numbers of a target, each before the next; no number is cut. */
+static void no_targets(void)
+{
+    static const uint32_t marks[] = { VULCEDAR_RUNNING, VULCEDAR_OFFERED, 6, 255, 256, 256 + VULCEDAR_COMMITTED, 0x80000004u };
+    static const uint32_t ends[] = { VULCEDAR_NOT_STARTED, VULCEDAR_RUNNING, VULCEDAR_OFFERED, VULCEDAR_TURNED_DOWN, 0x103, 0xffffffffu };
+    uint8_t answers[8] = { 0 };
+    for (size_t length = 0; length < 8; length++)
+        expect("answers' length", vulcedar_way(staged, sizeof staged, 5, VULCEDAR_RUNNING, 0, answers, length) == VULCEDAR_BAD_BUFFER, length != 5);
+    expect("no such node", look(5, VULCEDAR_RUNNING, VULCEDAR_RUNNING, answers), VULCEDAR_NOT_IN_PLAN);
+    expect("no such node above 255", look(256, VULCEDAR_COMMITTED, VULCEDAR_COMMITTED, answers), VULCEDAR_NOT_IN_PLAN);
+    for (size_t i = 0; i < sizeof marks / sizeof marks[0]; i++) expect("no such mark", look(2, marks[i], VULCEDAR_COMMITTED, answers), VULCEDAR_BAD_TARGET);
+    for (size_t i = 0; i < sizeof ends / sizeof ends[0]; i++) expect("no such end", look(0, VULCEDAR_TURNED_DOWN, ends[i], answers), VULCEDAR_BAD_TARGET);
+    expect("no way", look(0, VULCEDAR_TURNED_DOWN, VULCEDAR_COMMITTED, answers), VULCEDAR_NO_WAY);
+}
+
 /* Task 1, then task 2: site 2 is told that 1 committed, which it did not, and the block commits without it. */
 static void false_message(void)
 {
@@ -656,7 +717,9 @@ int main(void)
     desk_lengths();
     changed();
     unchanged();
+    ways();
+    no_targets();
     false_message();
-    if (wrong == 0) printf("header: nulls, parts of results, a journal, its points, tables, desks, a changed answer, the version and a false message are as it says\n");
+    if (wrong == 0) printf("header: nulls, parts of results, a journal, its points, tables, desks, a changed answer, ways, the version and a false message are as it says\n");
     return wrong == 0 ? 0 : 1;
 }

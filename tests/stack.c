@@ -1,8 +1,8 @@
 /*
  * How much stack a call takes: every exported function is called on a painted stack of its own, for plans of 160 nodes as
  * deep and as wide as they may be, and for every event of them, refused and passed; with desks, three nodes share one. An answer
- * is changed for every node. Prints the deepest of each function; fails if one is above what the header says. Symbols must be bound beforehand (-Wl,-z,now): the
- * loader's own stack is not the library's.
+ * is changed for every node, and a way is looked for to every target. Prints the deepest of each function; fails if one is above
+ * what the header says. Symbols must be bound beforehand (-Wl,-z,now): the loader's own stack is not the library's.
  */
 #define _GNU_SOURCE
 #include <stdio.h>
@@ -39,6 +39,11 @@ static void step(void) { answer = vulcedar_step(plan, 2 * nodes, code, node, row
 static void hear(void) { answer = vulcedar_hear(plan, 2 * nodes, code, node, row, nodes); }
 static void pass(void) { answer = vulcedar_pass(plan, 2 * nodes, answers, nodes, marks, nodes); }
 static void impact(void) { answer = vulcedar_impact(plan, 2 * nodes, answers, nodes, passed, nodes, node, code); }
+static void find(void) /* the way to the node, for each of the eight targets there */
+{
+    static const uint32_t wanted[] = { VULCEDAR_NOT_STARTED, VULCEDAR_COMMITTED, VULCEDAR_FAILED, VULCEDAR_TURNED_DOWN };
+    answer = vulcedar_way(plan, 2 * nodes, node, wanted[code / 2 % 4], code % 2 ? VULCEDAR_COMMITTED : VULCEDAR_FAILED, out, nodes);
+}
 static void happen(void) { answer = vulcedar_simulate(plan, 2 * nodes, code, node, VULCEDAR_HAPPENS, state, nodes * nodes); }
 static void tell(void) { answer = vulcedar_simulate(plan, 2 * nodes, code, node, 0, state, nodes * nodes); }
 static void keep_event(void) { answer = vulcedar_keep(plan, 2 * nodes, code, node, VULCEDAR_HAPPENS, state, nodes * nodes, kept, 1, &fresh); }
@@ -68,10 +73,11 @@ static void desk_record_by(void) { answer = vulcedar_desk_record_by(with_desks, 
 static void version(void) { answer = vulcedar_version(); }
 static void rehearse(void) { answer = vulcedar_rehearse(text, text_len, printed, sizeof printed); }
 
+/* events: 0 called once, 1 for each event and all that may have been heard, 2 for each target. */
 static struct call { const char *name; void (*run)(void); int events; size_t most; } calls[] = {
     { "check", check, 0, 0 }, { "rewrite", rewrite, 0, 0 }, { "check_depths", check_depths, 0, 0 },
     { "guard", guard, 1, 0 }, { "guard (short buffer)", short_guard, 1, 0 }, { "rule", rule, 1, 0 }, { "step", step, 1, 0 },
-    { "hear", hear, 1, 0 }, { "pass", pass, 0, 0 }, { "impact", impact, 1, 0 }, { "simulate (event)", happen, 1, 0 }, { "simulate (message)", tell, 1, 0 },
+    { "hear", hear, 1, 0 }, { "pass", pass, 0, 0 }, { "impact", impact, 1, 0 }, { "way", find, 2, 0 }, { "simulate (event)", happen, 1, 0 }, { "simulate (message)", tell, 1, 0 },
     { "keep (event)", keep_event, 1, 0 }, { "keep (message)", keep_message, 1, 0 },
     { "undo (event)", undo_event, 1, 0 }, { "undo (message)", undo_message, 1, 0 },
     { "point_name", point_name, 0, 0 }, { "point_undo", point_undo, 1, 0 }, { "point_back", point_back, 1, 0 },
@@ -210,7 +216,7 @@ static void measure_plan(size_t none)
     for (size_t c = 0; c < CALLS; c++)
         for (node = 0; node < (calls[c].events ? nodes : 1); node++)
             for (code = 1; code <= (calls[c].events ? 8 : 1); code++)
-                for (int heard = NOTHING; heard <= OTHERS; heard++) measure(&calls[c], none, (enum heard)heard);
+                for (int heard = NOTHING; heard <= (calls[c].events == 2 ? NOTHING : OTHERS); heard++) measure(&calls[c], none, (enum heard)heard);
 }
 
 int main(void)
