@@ -17,7 +17,7 @@ use Rattle.row.specs.Row.{hear}
 use Rattle.site.specs.Verdict.{reportOf, verdictNumber}
 use Rattle.site.specs.Step.{stepInvalid, siteAt}
 use Rattle.site.proofs.StepLaws.{step-tested, step-passes, step-leaves, number-any-site}
-use Rattle.runs.specs.Agree.{Bytes}
+use Rattle.lists.specs.Bytes.{Bytes}
 use Rattle.runs.proofs.Net.{passedIn}
 use Rattle.runs.proofs.Safe.{InStep, steps-on, own-row}
 use Rattle.runs.proofs.Full.{site-in}

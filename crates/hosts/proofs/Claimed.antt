@@ -20,7 +20,8 @@ use Rattle.pass.specs.Pass.{pass}
 use Rattle.row.specs.Row.{heard}
 use Rattle.site.specs.Step.{stepInvalid, siteAt}
 use Rattle.site.proofs.StepLaws.{step-tested, step-passes, number-any-site}
-use Rattle.runs.specs.Agree.{Bytes, Agrees}
+use Rattle.lists.specs.Bytes.{Bytes}
+use Rattle.runs.specs.Agree.{Agrees}
 use Rattle.runs.specs.Claims.{Stuck}
 use Rattle.runs.proofs.Full.{site-in}
 use Rattle.runs.proofs.Main.{stuck-is-pass}

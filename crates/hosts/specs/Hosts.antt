@@ -17,7 +17,8 @@ use Rattle.pass.specs.Pass.{pass}
 use Rattle.row.specs.Row.{heard}
 use Rattle.site.specs.Verdict.{verdictNumber}
 use Rattle.site.specs.Step.{stepOf, hearOf}
-use Rattle.runs.specs.Agree.{Bytes, Agrees}
+use Rattle.lists.specs.Bytes.{Bytes}
+use Rattle.runs.specs.Agree.{Agrees}
 use Rattle.job.specs.Simulation.{rowOf, Step, event, message, numbersFrom, passedOf, zeros, replay, passed, markBy}
 
 -- B4: the rows that the sites keep, by site number

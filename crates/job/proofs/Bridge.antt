@@ -14,7 +14,7 @@ use Rattle.event.specs.Event.{codeNumber, codeOf, isCode, Event, eventOf, same,
 use Rattle.event.specs.Site.{Layout, Housed, siteOf}
 use Rattle.event.proofs.CodeLaws.{code-back, code-is, code-number}
 use Rattle.row.specs.Row.{hear}
-use Rattle.runs.specs.Agree.{Bytes}
+use Rattle.lists.specs.Bytes.{Bytes}
 use Rattle.runs.proofs.Net.{Move, occur, relay, learn, passes, relayed, moved, passedBy, passedIn, movedAll}
 use Rattle.runs.proofs.Full.{passedIn-append, moved-append, site-in}
 use Rattle.job.specs.Simulation.{rowOf, withRow, Step, event, message, simulate, stepNumber, replayFrom, passedOf, passedFrom, heardOf, heardFrom}

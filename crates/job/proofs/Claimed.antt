@@ -21,7 +21,8 @@ use Rattle.retention.specs.Record.{recordOf}
 use Rattle.row.specs.Row.{heard}
 use Rattle.site.specs.Verdict.{verdictNumber}
 use Rattle.site.specs.Step.{stepInvalid, stepAt}
-use Rattle.runs.specs.Agree.{Bytes, Agrees}
+use Rattle.lists.specs.Bytes.{Bytes}
+use Rattle.runs.specs.Agree.{Agrees}
 use Rattle.runs.specs.Claims.{Stuck}
 use Rattle.runs.proofs.Net.{passedIn, movedAll, silence}
 use Rattle.runs.proofs.Safe.{InStep, safe}

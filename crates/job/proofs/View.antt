@@ -15,7 +15,7 @@ use Rattle.event.specs.Site.{Layout}
 use Rattle.event.specs.Bit.{hasBit, withBit}
 use Rattle.event.proofs.BitLaws.{with-bit, with-small, no-bit}
 use Rattle.row.specs.Row.{heardIn, heard, hear}
-use Rattle.runs.specs.Agree.{Bytes}
+use Rattle.lists.specs.Bytes.{Bytes}
 use Rattle.runs.proofs.Net.{learn, silence}
 use Rattle.job.specs.Simulation.{rowOf, withRow, zeros}
 use Rattle.job.proofs.StateLaws.{row-below, byte-at, row-hear}

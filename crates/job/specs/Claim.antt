@@ -18,7 +18,8 @@ use Rattle.retention.specs.Record.{recordOf}
 use Rattle.row.specs.Row.{heard}
 use Rattle.site.specs.Verdict.{verdictNumber}
 use Rattle.site.specs.Step.{stepAt}
-use Rattle.runs.specs.Agree.{Bytes, Agrees}
+use Rattle.lists.specs.Bytes.{Bytes}
+use Rattle.runs.specs.Agree.{Agrees}
 use Rattle.job.specs.Simulation.{rowOf, Step, message, simulate, stepNumber, replayFrom, passedFrom, replay, passed, heardAt, markAt, endMarks}
 
 -- B3, I2: the row where e happens, after the steps ts

@@ -23,7 +23,7 @@ use Rattle.row.specs.Row.{heardIn, hear}
 use Rattle.site.specs.declared.Refusal.the-variants.{Invalid}
 use Rattle.site.specs.declared.Verdict.the-variants.{Refused}
 use Rattle.site.specs.Verdict.{reportOf, verdictNumber}
-use Rattle.runs.specs.Agree.{Bytes}
+use Rattle.lists.specs.Bytes.{Bytes}
 use Rattle.job.specs.Simulation.{rowOf, withRow, stepBy, Simulated, simulated, stateFits, happen, tell, simulate}
 use Rattle.job.proofs.StateLaws.{byte-at, row-hear, row-unhear}
 use Rattle.job.proofs.StepLaws.{happen-leaves, tell-leaves, unfit-refused, refused-leaves}

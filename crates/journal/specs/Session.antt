@@ -11,7 +11,7 @@ use Rattle.event.specs.Event.{Event}
 use Rattle.event.specs.Site.{Layout, own, Housed}
 use Rattle.central.specs.Central.{isRun}
 use Rattle.site.specs.Verdict.{verdictNumber}
-use Rattle.runs.specs.Agree.{Bytes}
+use Rattle.lists.specs.Bytes.{Bytes}
 use Rattle.job.specs.Simulation.{Step, replay, passed, numbersFrom, zeros}
 use Rattle.job.specs.Claim.{Informed}
 use Rattle.journal.specs.declared.Entry.{Entry}

@@ -2,7 +2,6 @@
 pub mod TableLaws
 pub mod StateLaws
 pub mod GoesLaws
-pub mod LinkLaws
 pub mod SettleLaws
 pub mod WalkLaws
 pub mod PassLaws

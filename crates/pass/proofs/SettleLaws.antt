@@ -12,7 +12,8 @@ use Rattle.lists.proofs.Logic.{cases, decided}
 use Rattle.plan.specs.Plan.{task, kindOf, size, kindByte, kind}
 use Rattle.plan.proofs.KindLaws.{kind-task}
 use Rattle.pass.specs.Pass.{Settled, walk, nothing, unwalked, oneOrTwo, badAnswer, badPick, closes, ending, endOf, close, settleIf, settleBy, settle}
-use Rattle.pass.specs.Values.{outcomeOf, taskEnd, Ready, Linked, Settles}
+use Rattle.pass.specs.Values.{outcomeOf, taskEnd, Ready, Settles}
+use Rattle.links.specs.Links.{Linked}
 use Rattle.pass.proofs.StateLaws.{wrong-answer, end-fault}
 use Rattle.pass.proofs.TableLaws.{block-kind}
 

@@ -12,11 +12,12 @@ use Rattle.lists.proofs.Logic.{cases, decided, and-left, and-right}
 use Rattle.plan.specs.Plan.{Kind, xor, conditional, kindNumber, isKind, kindOf, size}
 use Rattle.plan.proofs.PlanLaws.{Child}
 use Rattle.pass.specs.Pass.{Settled, Tally, Walked, goes, goesBy, skip, note, childMark, childSettled, meetBy, meet, walk, nothing, unwalked, badAnswer, endOf, close, settleIf, settleBy, settle}
-use Rattle.pass.specs.Values.{outcomeOf, tallyOf, soFar, comesTo, saysNo, doneBy, endsAs, Ready, childrenFrom, ledTo, Settles}
+use Rattle.pass.specs.Values.{outcomeOf, tallyOf, soFar, comesTo, saysNo, doneBy, endsAs, Ready, Settles}
+use Rattle.links.specs.Links.{childrenFrom, ledTo}
 use Rattle.pass.proofs.StateLaws.{note-places, Seen, seen-none, seen-more, Ends, seen-end, mark-place}
 use Rattle.pass.proofs.GoesLaws.{late, Over, end-late, fault-ends, over-fault, over-done, goes-on, begins-on}
 use Rattle.pass.proofs.TableLaws.{is-conditional}
-use Rattle.pass.proofs.LinkLaws.{from-all, led-none, led-some, led-child}
+use Rattle.links.proofs.LinkLaws.{from-all, led-none, led-some, led-child}
 use Rattle.pass.proofs.SettleLaws.{Begun}
 
 abbrev walked : Tally → List ℕ → Walked

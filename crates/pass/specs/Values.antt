@@ -1,12 +1,11 @@
--- The code's bytes as values of specs/Pass.antt, the links between children, and what `settle` takes and leaves. Definitions only.
+-- The code's bytes as values of specs/Pass.antt, and what `settle` takes and leaves. Definitions only.
 use mathlib.Core.Path.{_≡_}
 use mathlib.Core.Bool.{Bool, false, cond, _&&_, not}
-use mathlib.Core.List.{List, [], _∷_}
-use Prim.Native.Nat.{ℕ, _+_, _-_, _≤_, _<_}
+use mathlib.Core.List.{List}
+use Prim.Native.Nat.{ℕ, _+_, _≤_, _<_}
 use lib.Dec.{eqb}
-use lib.ListN.{length, getD}
-use Rattle.lists.specs.Seq.{keep, upFrom}
-use Rattle.plan.specs.Plan.{Kind, task, serial, and, or, xor, contingency, conditional, waiting, isKind, size, parent}
+use lib.ListN.{length}
+use Rattle.plan.specs.Plan.{Kind, task, serial, and, or, xor, contingency, conditional, waiting, isKind, size}
 use Rattle.plan.specs.Check.{Accepted}
 use Rattle.pass.specs.Pass.{Outcome, works, breaks, fault, Tally, settle}
 
@@ -55,19 +54,6 @@ pub record Ready (p a m : List ℕ) (v : ℕ) : Type 0 where
   pub answers : length a ≡ size p
   pub marks : length m ≡ size p
   pub node : v < size p
-
--- A4: v's children from node c on
-unfoldable pub childrenFrom : List ℕ → ℕ → ℕ → List ℕ
-childrenFrom p v c = keep (λ d. eqb (parent p d) v) (upFrom c (size p - c))
-
--- A4: v's children from c on, where c is one of them; 0, which is nobody's child, stands for none
-unfoldable pub ledTo : List ℕ → ℕ → ℕ → List ℕ
-ledTo p v c = cond (eqb c 0) [] (c ∷ childrenFrom p v (c + 1))
-
--- A4: `first` leads to each node's children, `next` to the children behind it
-pub record Linked (p first next : List ℕ) : Type 0 where
-  pub child : (v : ℕ) → v < size p → childrenFrom p v 1 ≡ ledTo p v (getD first v 0)
-  pub sibling : (c : ℕ) → 0 < c → c < size p → childrenFrom p (parent p c) (c + 1) ≡ ledTo p (parent p c) (getD next c 0)
 
 -- F2 to F5: settling v, where the marks were m, ends as o and leaves the marks n, whatever fuel is enough
 pub record Settles (p a m : List ℕ) (v : ℕ) (n : List ℕ) (o : ℕ) : Type 0 where

@@ -5,11 +5,10 @@
 // has settled, its state, is a byte too: 3, 4, or 5 where children of an xor offer and the picked one is not among them.
 ghost use mathlib.Core.Path.{_≡_};
 ghost use Prim.Native.Nat.{_<_};
-ghost use lib.ListN.{replicate};
 ghost use Rattle.plan.specs.Plan.{kindOf};
-ghost use Rattle.plan.specs.Check.{Accepted};
+ghost use Rattle.links.specs.Links.{Linked};
 ghost use Rattle.pass.specs.Pass.{badAnswer, childMark, nothing, passResult, passInto};
-ghost use Rattle.pass.specs.Values.{outcomeOf, taskEnd, tallyOf, soFar, comesTo, saysNo, doneBy, endsAs, Ready, Linked, Settles};
+ghost use Rattle.pass.specs.Values.{outcomeOf, taskEnd, tallyOf, soFar, comesTo, saysNo, doneBy, endsAs, Ready, Settles};
 
 // The fault of a node's answer that is found before its children, or 0.
 fn bad_answer(kind: u8, answer: u8) -> u8
@@ -116,20 +115,6 @@ fn ends_as(kind: u8, answer: u8, state: u8) -> u8
     14
 }
 
-// Leaves in `first` each node's first child, in `next` its next sibling; 0 where there is none, as in all of both before.
-fn link_all(plan: &[u8], first: &mut [u8; 160], next: &mut [u8; 160])
-    requires { ⌜ Accepted (now plan) × (now first ≡ replicate 160 0) × (now next ≡ replicate 160 0) ⌝ }
-    ensures { λ _. ⌜ Linked (now (plan .entry)) (now (first .exit)) (now (next .exit)) ⌝ }
-{
-    let mut v = plan.len() / 2;
-    while 1 < v {
-        v -= 1;
-        let u = plan::wide(plan[2 * v + 1]);
-        next[v] = first[u];
-        first[u] = v as u8;
-    }
-}
-
 // Settles a node: leaves the marks of the nodes below it, and answers how it ended.
 fn settle(
     plan: &[u8],
@@ -182,7 +167,7 @@ fn settle_root(plan: &[u8], answers: &[u8], marks: &mut [u8]) -> u8
 {
     let mut first = [0u8; 160];
     let mut next = [0u8; 160];
-    link_all(plan, &mut first, &mut next);
+    links::link_all(plan, &mut first, &mut next);
     settle(plan, answers, &first, &next, marks, 0)
 }
 

@@ -130,7 +130,7 @@ pub count-off : (k : Kind) (x : ℕ) (t : Tally) (o : Outcome) → goes k x t �
 unfolding counted
 count-off k x t o g = rw g
 
-count-on : (k : Kind) (x : ℕ) (t : Tally) (o : Outcome) → goes k x t ≡ true → counted k x t o ≡ note x t o
+pub count-on : (k : Kind) (x : ℕ) (t : Tally) (o : Outcome) → goes k x t ≡ true → counted k x t o ≡ note x t o
 unfolding counted
 count-on k x t o g = rw g
 

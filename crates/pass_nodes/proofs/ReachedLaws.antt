@@ -30,7 +30,7 @@ mark-works k x t = go (isKind xor k && not (eqb (suc (t .places)) x))
     go true = refl
     go false = refl
 
-mark-end : (k : Kind) (x : ℕ) (t : Tally) (o : Outcome) → Clean o → endOfMark (childMark k x t o) ≡ o
+pub mark-end : (k : Kind) (x : ℕ) (t : Tally) (o : Outcome) → Clean o → endOfMark (childMark k x t o) ≡ o
 unfolding childMark endOfMark
 mark-end k x t o h = cases h (λ e. rw e (mark-works k x t)) (λ e. rw e)
 

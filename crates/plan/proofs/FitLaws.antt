@@ -2,12 +2,12 @@
 use mathlib.Core.Path.{_≡_, refl, sym, _∙_}
 use mathlib.Core.Bool.{Bool, true, false, cond, not}
 use mathlib.Core.List.{List}
-use Prim.Native.Nat.{ℕ}
+use Prim.Native.Nat.{ℕ, _≤_}
 use native.Mathlib.Omega.{arith}
 use lib.Dec.{eqb}
 use borrow.Author.Tests.{eqb-true, eqb-false, ne-eqb}
 use Rattle.lists.proofs.Logic.{cases, decided}
-use Rattle.plan.specs.Check.{checkNumber, fitNumber}
+use Rattle.plan.specs.Check.{lengthOk, atAll, kindOk, parentOk, underBlock, countOk, depthOk, checkNumber, fitNumber}
 
 module _ (p : List ℕ) where
   -- 1 to 6 come first
@@ -34,3 +34,27 @@ module _ (p : List ℕ) where
   fit-right = cases (decided (eqb (checkNumber p) 0))
       (λ e. let z = eqb-true (checkNumber p) 0 e in fit-lengths true z ∙ sym z)
       (λ e. fit-plan true (eqb-false (checkNumber p) 0 e))
+
+check-few : (p : List ℕ) → checkNumber p ≤ 6
+unfolding checkNumber
+check-few p = go (lengthOk p) (atAll kindOk p) (atAll parentOk p) (atAll underBlock p) (atAll countOk p) (atAll depthOk p)
+  where
+    go : (a b c d e f : Bool) →
+        cond (not a) 1 (cond (not b) 2 (cond (not c) 3 (cond (not d) 4 (cond (not e) 5 (cond (not f) 6 0))))) ≤ 6
+    go false b c d e f = omega arith
+    go true false c d e f = omega arith
+    go true true false d e f = omega arith
+    go true true true false e f = omega arith
+    go true true true true false f = omega arith
+    go true true true true true false = omega arith
+    go true true true true true true = omega arith
+
+-- no number above 7
+pub fit-few : (p : List ℕ) (right : Bool) → fitNumber p right ≤ 7
+unfolding fitNumber
+fit-few p right = go (eqb (checkNumber p) 0) right
+  where
+    go : (b d : Bool) → cond (not b) (checkNumber p) (cond (not d) 7 0) ≤ 7
+    go false d = omega (arith, check-few p)
+    go true false = omega arith
+    go true true = omega arith

@@ -21,7 +21,8 @@ use Rattle.plan.proofs.AcceptedLaws.{parent-in}
 use Rattle.event.specs.Event.{Code, start, offer, commit, abort, answered-yes, answered-no, pick, at, appliesBy, applies}
 use Rattle.central.specs.Mark.{failed}
 use Rattle.central.specs.Central.{Answer, none, said-yes, said-no, Central, fresh, isYes, isNo, marked, reaches}
-use Rattle.runs.specs.Agree.{Bytes, placeOf, Agrees}
+use Rattle.lists.specs.Bytes.{Bytes}
+use Rattle.runs.specs.Agree.{placeOf, Agrees}
 use Rattle.runs.specs.Claims.{AnswersAgree}
 use Rattle.runs.proofs.Said.{saidBy, said, happened}
 use Rattle.runs.proofs.Family.{xor-child, child-xor}

@@ -2,16 +2,11 @@
 use mathlib.Core.Path.{_≡_}
 use mathlib.Core.Bool.{Bool, true, false, _||_}
 use mathlib.Core.List.{List}
-use Prim.Native.Nat.{ℕ, suc, _<_}
+use Prim.Native.Nat.{ℕ, suc}
 use lib.ListN.{length, getD}
 use Rattle.lists.specs.Seq.{any, earlier}
 use Rattle.plan.specs.Plan.{task, xor, kind, parent, children}
 use Rattle.event.specs.Event.{start, offer, commit, abort, answered-yes, answered-no, pick, Event, at}
-
--- F1, I1: n bytes
-pub record Bytes (n : ℕ) (l : List ℕ) : Type 0 where
-  pub long : length l ≡ n
-  pub small : (i : ℕ) → getD l i 0 < 256
 
 -- F1: the place, from 1, of v among its parent's children
 unfoldable pub placeOf : List ℕ → ℕ → ℕ

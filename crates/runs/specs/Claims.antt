@@ -13,7 +13,8 @@ use Rattle.guard.specs.Guard.{guard, holds, barred}
 use Rattle.central.specs.Mark.{committed, failed, turned-down, markNumber}
 use Rattle.central.specs.Central.{Central, fresh, marked, started, allowed, isRun, reaches}
 use Rattle.pass.specs.Pass.{pass}
-use Rattle.runs.specs.Agree.{Bytes, Agrees}
+use Rattle.lists.specs.Bytes.{Bytes}
+use Rattle.runs.specs.Agree.{Agrees}
 
 -- C, D, E, I11 (demand 2): after every run, where just the run's events are heard, an event that applies is not barred and its guard holds if
 -- and only if the central rule allows it

@@ -4,9 +4,9 @@ use Prim.Native.Nat.{_+_, _-_}
 use native.Mathlib.Omega.{arith}
 use borrow.Author.Needs.{needs}
 use Rattle.plan.specs.Plan.{parent}
-use Rattle.pass.proofs.LinkLaws.{Linking, LinkTurn, link-none, link-below, link-small, link-turn, link-done}
-use Rattle.pass.proofs.link_all.Statement.{statement}
-use Rattle.pass.proofs.link_all.Tie as tie
+use Rattle.links.proofs.LinkLaws.{Linking, LinkTurn, link-none, link-below, link-small, link-turn, link-done}
+use Rattle.links.proofs.link_all.Statement.{statement}
+use Rattle.links.proofs.link_all.Tie as tie
 
 abbrev Inv-loop : tie.InvT-loop
 Inv-loop plan first₀ next₀ v₀ first next v = Linking plan first next v

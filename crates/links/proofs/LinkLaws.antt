@@ -16,7 +16,7 @@ use Rattle.lists.proofs.Keep.{keep-yes, keep-no, keep-out}
 use Rattle.plan.specs.Plan.{size, parent, childrenBelow, children}
 use Rattle.plan.specs.Check.{Accepted}
 use Rattle.plan.proofs.PlanLaws.{Child}
-use Rattle.pass.specs.Values.{childrenFrom, ledTo, Linked}
+use Rattle.links.specs.Links.{childrenFrom, ledTo, Linked}
 
 module _ (p : List ℕ) (v : ℕ) where
   pub from-all : children p v ≡ childrenFrom p v 1
