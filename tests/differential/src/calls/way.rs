@@ -15,15 +15,18 @@ use reference::way::Target;
 const MARKS: [u8; 4] = [0, 3, 4, 5];
 const ENDS: [u8; 2] = [3, 4];
 
-/// Numbers that can't be wanted, some of them though others than these are cut.
+/// Numbers that can't be wanted; some could, if they were cut.
 const UNWANTED: [u32; 9] = [1, 2, 6, 255, 0x100, 0x103, 0x104, 0x1_0005, 0x8000_0003];
 
-/// Targets of a plan, of one that has more xors, of a wide one, and of small
-/// ones, in one of which subtrees stand among each other.
+/// Targets of a plan, of one that has more xors, now and then of a large one, of
+/// a wide one, and of small ones, in one of which subtrees stand among each
+/// other.
 pub fn ways<S: Implementation, R: Implementation>(trial: &mut Trial<S, R>, random: &mut Random, plan: &[u8]) {
     let mut picking = plan.to_vec();
     plans::favour_xor(random, &mut picking);
-    for plan in [plan, &picking] {
+    let nodes = if random.chance(30) { random.between(80, 160) } else { 12 };
+    let large = plans::of_size(random, nodes);
+    for plan in [plan, &picking, &large] {
         any_targets(trial, random, plan);
         known_targets(trial, random, plan);
     }
@@ -59,12 +62,12 @@ fn any_wanted(random: &mut Random, nodes: usize) -> Wanted {
         0 => random.one_of(&STRANGE),
         1 => random.one_of(&UNWANTED),
         2 => u32::from(random.one_of(from)) | random.one_of(&[1 << 8, 1 << 16, 1 << 31]),
+        3 => u32::from(random.one_of(&MARKS)),
         _ => u32::from(random.one_of(from)),
     };
-    let (mark, end) = (number(&MARKS), number(&[3, 3, 3, 4, 4, 4, 0, 5]));
-    let node = any_node(random, nodes);
-    let is_wide = random.chance(5);
-    Wanted { node: if is_wide { node | random.one_of(&[1 << 8, 1 << 31]) } else { node }, mark, end }
+    let (mark, end) = (number(&MARKS), number(&ENDS));
+    let high = if random.chance(5) { random.one_of(&[1 << 8, 1 << 31]) } else { 0 };
+    Wanted { node: any_node(random, nodes) | high, mark, end }
 }
 
 /// Targets that a list of answers leads to: there is a way, it is not larger
