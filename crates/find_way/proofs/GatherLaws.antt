@@ -16,7 +16,7 @@ use Rattle.way.specs.Can.{fitsOf}
 use Rattle.find_way.specs.declared.Marks.{Marks}
 use Rattle.find_way.specs.declared.Hope.{Hope}
 use Rattle.find_way.specs.declared.Target.{Target}
-use Rattle.find_way.specs.Marks.{unpacked, joined, none, hopeOn, marksBy, marksAt}
+use Rattle.find_way.specs.Marks.{unpacked, joined, unseen, hopeOn, marksBy, marksAt}
 use Rattle.find_way.specs.Search.{Given, able, Knows}
 use Rattle.find_way.proofs.HopeLaws.{unpack-pack, hope-same, finish-is}
 
@@ -33,22 +33,22 @@ module _ (p first next a : List ℕ) (i : ℕ) (table : List ℕ) (v : ℕ) wher
   pub record Gathering (h : Hope) (place c : ℕ) : Type 0 where
     pub given : Given p first next a
     pub within : v < size p
-    pub so-far : hope 0 none (children p v) ≡ hope place h (ledTo p v c)
+    pub so-far : hope 0 unseen (children p v) ≡ hope place h (ledTo p v c)
     pub room : place + length (ledTo p v c) ≤ 32
     pub child : (c ≡ 0 → ⊥) → Child p v c
 
 module _ {p first next a : List ℕ} {i : ℕ} {table : List ℕ} {v : ℕ} where
-  pub gather-all : Given p first next a → v < size p → (c : ℕ) → c ≡ getD first v 0 → Gathering p first next a i table v none 0 c
+  pub gather-all : Given p first next a → v < size p → (c : ℕ) → c ≡ getD first v 0 → Gathering p first next a i table v unseen 0 c
   gather-all g l c e = rw e (record {
     given = g;
     within = l;
-    so-far = ap (hope p first next a i table v 0 none) (led-all (g .linked) v l);
+    so-far = ap (hope p first next a i table v 0 unseen) (led-all (g .linked) v l);
     room = let m = g .accepted .most v l in omega (arith, ap length (led-all (g .linked) v l));
     child = λ n. first-child (g .linked) v l n .0;
   })
 
   module _ {h : Hope} {place c : ℕ} (t : Gathering p first next a i table v h place c) where
-    pub gather-done : c ≡ 0 → hope p first next a i table v 0 none (children p v) ≡ h
+    pub gather-done : c ≡ 0 → hope p first next a i table v 0 unseen (children p v) ≡ h
     unfolding hopeOn
     gather-done e = t .so-far ∙ ap (hope p first next a i table v place h) (led-none p v c e)
 
@@ -88,12 +88,12 @@ module _ {p first next a : List ℕ} {i : ℕ} {table : List ℕ} {v : ℕ} wher
 -- a node whose children the table has
 module _ (p first next a : List ℕ) (i : ℕ) (t : Target) (table : List ℕ) (v : ℕ) (g : Given p first next a) (l : v < size p)
     (k : (c : ℕ) → In c (children p v) → Knows p a i t table c) where
-  pub marks-known : (h : Hope) (zero one two : Bool) (m : Marks) → h ≡ hope p first next a i table v 0 none (children p v) →
+  pub marks-known : (h : Hope) (zero one two : Bool) (m : Marks) → h ≡ hope p first next a i table v 0 unseen (children p v) →
       zero ≡ fitsOf a i v 0 → one ≡ fitsOf a i v 1 → two ≡ fitsOf a i v 2 → m ≡ marksBy (kindByte p v) zero one two h (not (eqb v (t .node))) (t .mark) →
       m ≡ marksAt (able p a i t) v
   marks-known h zero one two m e y z w q = q
       ∙ (λ j. marksBy (kindByte p v) (y j) (z j) (w j) ((e ∙ all) j) (not (eqb v (t .node))) (t .mark))
       ∙ finish-is p (g .accepted) (fitsOf a i) (t .node) (t .mark) v l
     where
-      all : hope p first next a i table v 0 none (children p v) ≡ hopeOn (fitsOf a i v) (kindByte p v) (marksAt (able p a i t)) 0 none (children p v)
-      all = hope-same (fitsOf a i v) (kindByte p v) (seen table) (marksAt (able p a i t)) 0 none (children p v) (λ c j. ap unpacked (k c j) ∙ unpack-pack _)
+      all : hope p first next a i table v 0 unseen (children p v) ≡ hopeOn (fitsOf a i v) (kindByte p v) (marksAt (able p a i t)) 0 unseen (children p v)
+      all = hope-same (fitsOf a i v) (kindByte p v) (seen table) (marksAt (able p a i t)) 0 unseen (children p v) (λ c j. ap unpacked (k c j) ∙ unpack-pack _)

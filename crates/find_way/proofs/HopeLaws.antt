@@ -16,7 +16,7 @@ use Rattle.way.specs.Can.{stops, anywhere, gets, getsOne, worksBy, breaksBy, ca
 use Rattle.way.proofs.CanLaws.{can-is}
 use Rattle.find_way.specs.declared.Marks.{Marks}
 use Rattle.find_way.specs.declared.Hope.{Hope}
-use Rattle.find_way.specs.Marks.{packed, unpacked, asAnd, asOr, keeps, turns, rests, plains, joined, none, hopeOn, worksTo, breaksTo, marksBy, marksAt}
+use Rattle.find_way.specs.Marks.{packed, unpacked, asAnd, asOr, keeps, turns, rests, plains, joined, unseen, hopeOn, worksTo, breaksTo, marksBy, marksAt}
 
 pub fits-is : (a : List ℕ) (i v x : ℕ) → (leb i v || eqb x (getD a v 0)) ≡ fitsOf a i v x
 unfolding fitsOf
@@ -98,31 +98,31 @@ by-byte P a b c d e f g h k l m =
 
 module _ (fits : ℕ → Bool) (can : ℕ → ℕ → Bool) (cs : List ℕ) where
   abbrev hope : ℕ → Hope
-  hope k = hopeOn fits k (marksAt can) 0 none cs
+  hope k = hopeOn fits k (marksAt can) 0 unseen cs
 
   works-is : (k : ℕ) → 1 ≤ k → k ≤ 8 → worksTo k (fits 1) (hope k) ≡ worksBy fits can (kindOf k) cs
-  unfolding worksTo worksBy kindOf asAnd asOr keeps turns rests plains marksAt none
+  unfolding worksTo worksBy kindOf asAnd asOr keeps turns rests plains marksAt unseen
   works-is = by-byte (λ k. worksTo k (fits 1) (hope k) ≡ worksBy fits can (kindOf k) cs)
       (simp or-false)
-      (simp or-false (plain-is fits 2 (marksAt can) (gets can 3) (λ c. or-false (can c 3)) 0 none cs))
-      (simp or-false (plain-is fits 3 (marksAt can) (gets can 3) (λ c. or-false (can c 3)) 0 none cs))
-      (turn-is fits 4 (marksAt can) (getsOne can 3 4) (gets can 4) (λ c. simp or-false) (λ c. simp or-false) anywhere (gets can 3) (λ c n. simp or-false (sym (and-true (can c 3)))) 0 none cs)
-      (turn-is fits 5 (marksAt can) (getsOne can 5 4) (getsOne can 5 4) (λ c. refl) (λ c. simp or-false) fits (gets can 3) (λ c n. refl) 0 none cs)
-      (turn-is fits 6 (marksAt can) (gets can 0) (gets can 4) (λ c. simp or-false) (λ c. simp or-false) anywhere (gets can 3) (λ c n. simp or-false (sym (and-true (can c 3)))) 0 none cs)
-      (turn-is fits 7 (marksAt can) (gets can 0) (gets can 0) (λ c. simp or-false) (λ c. refl) fits (gets can 3) (λ c n. refl) 0 none cs)
-      (simp or-false (plain-is fits 8 (marksAt can) (gets can 3) (λ c. or-false (can c 3)) 0 none cs))
+      (simp or-false (plain-is fits 2 (marksAt can) (gets can 3) (λ c. or-false (can c 3)) 0 unseen cs))
+      (simp or-false (plain-is fits 3 (marksAt can) (gets can 3) (λ c. or-false (can c 3)) 0 unseen cs))
+      (turn-is fits 4 (marksAt can) (getsOne can 3 4) (gets can 4) (λ c. simp or-false) (λ c. simp or-false) anywhere (gets can 3) (λ c n. simp or-false (sym (and-true (can c 3)))) 0 unseen cs)
+      (turn-is fits 5 (marksAt can) (getsOne can 5 4) (getsOne can 5 4) (λ c. refl) (λ c. simp or-false) fits (gets can 3) (λ c n. refl) 0 unseen cs)
+      (turn-is fits 6 (marksAt can) (gets can 0) (gets can 4) (λ c. simp or-false) (λ c. simp or-false) anywhere (gets can 3) (λ c n. simp or-false (sym (and-true (can c 3)))) 0 unseen cs)
+      (turn-is fits 7 (marksAt can) (gets can 0) (gets can 0) (λ c. simp or-false) (λ c. refl) fits (gets can 3) (λ c n. refl) 0 unseen cs)
+      (simp or-false (plain-is fits 8 (marksAt can) (gets can 3) (λ c. or-false (can c 3)) 0 unseen cs))
 
   breaks-is : (k : ℕ) → 1 ≤ k → k ≤ 8 → breaksTo k (fits 0) (fits 2) (hope k) ≡ breaksBy fits can (kindOf k) cs
-  unfolding breaksTo breaksBy kindOf asAnd asOr keeps turns rests plains marksAt none
+  unfolding breaksTo breaksBy kindOf asAnd asOr keeps turns rests plains marksAt unseen
   breaks-is = by-byte (λ k. breaksTo k (fits 0) (fits 2) (hope k) ≡ breaksBy fits can (kindOf k) cs)
       (simp or-false)
-      (simp or-false (turn-is fits 2 (marksAt can) (gets can 0) (gets can 3) (λ c. simp or-false) (λ c. simp or-false) anywhere (gets can 4) (λ c n. simp or-false (sym (and-true (can c 4)))) 0 none cs))
-      (simp or-false (turn-is fits 3 (marksAt can) (getsOne can 3 4) (gets can 3) (λ c. simp or-false) (λ c. simp or-false) anywhere (gets can 4) (λ c n. simp or-false (sym (and-true (can c 4)))) 0 none cs))
-      (simp or-false (plain-is fits 4 (marksAt can) (gets can 4) (λ c. refl) 0 none cs))
-      (simp or-false (ap (λ b. fits 0 && b) (plain-is fits 5 (marksAt can) (gets can 4) (λ c. refl) 0 none cs)))
-      (simp or-false (plain-is fits 6 (marksAt can) (gets can 4) (λ c. refl) 0 none cs))
-      (other-is fits 7 (marksAt can) (gets can 0) (gets can 0) (λ c. simp or-false) (λ c. refl) 0 none cs)
-      (simp or-false (turn-is fits 8 (marksAt can) (getsOne can 3 4) (gets can 3) (λ c. simp or-false) (λ c. simp or-false) anywhere (gets can 4) (λ c n. simp or-false (sym (and-true (can c 4)))) 0 none cs))
+      (simp or-false (turn-is fits 2 (marksAt can) (gets can 0) (gets can 3) (λ c. simp or-false) (λ c. simp or-false) anywhere (gets can 4) (λ c n. simp or-false (sym (and-true (can c 4)))) 0 unseen cs))
+      (simp or-false (turn-is fits 3 (marksAt can) (getsOne can 3 4) (gets can 3) (λ c. simp or-false) (λ c. simp or-false) anywhere (gets can 4) (λ c n. simp or-false (sym (and-true (can c 4)))) 0 unseen cs))
+      (simp or-false (plain-is fits 4 (marksAt can) (gets can 4) (λ c. refl) 0 unseen cs))
+      (simp or-false (ap (λ b. fits 0 && b) (plain-is fits 5 (marksAt can) (gets can 4) (λ c. refl) 0 unseen cs)))
+      (simp or-false (plain-is fits 6 (marksAt can) (gets can 4) (λ c. refl) 0 unseen cs))
+      (other-is fits 7 (marksAt can) (gets can 0) (gets can 0) (λ c. simp or-false) (λ c. refl) 0 unseen cs)
+      (simp or-false (turn-is fits 8 (marksAt can) (getsOne can 3 4) (gets can 3) (λ c. simp or-false) (λ c. simp or-false) anywhere (gets can 4) (λ c n. simp or-false (sym (and-true (can c 4)))) 0 unseen cs))
 
 module _ (p : List ℕ) (accepted : Accepted p) (fits : ℕ → ℕ → Bool) (w m : ℕ) (v : ℕ) (l : v < size p) where
   abbrev able : ℕ → ℕ → Bool
@@ -132,7 +132,7 @@ module _ (p : List ℕ) (accepted : Accepted p) (fits : ℕ → ℕ → Bool) (w
   k = kindByte p v
 
   abbrev h : Hope
-  h = hopeOn (fits v) k (marksAt able) 0 none (children p v)
+  h = hopeOn (fits v) k (marksAt able) 0 unseen (children p v)
 
   allows-is : (n : ℕ) → (not (eqb v w) || eqb m n) ≡ allowsOf w m v n
   unfolding allowsOf
@@ -156,7 +156,7 @@ module _ (p : List ℕ) (accepted : Accepted p) (fits : ℕ → ℕ → Bool) (w
   pub finish-is : marksBy k (fits v 0) (fits v 1) (fits v 2) h (not (eqb v w)) m ≡ marksAt able v
   unfolding marksBy marksAt canBy
   finish-is = λ i. record {
-    idle = mark-is 0 (h .idle) (unfold none in idle-is (fits v) k (marksAt able) 0 none (children p v)) i;
+    idle = mark-is 0 (h .idle) (unfold unseen in idle-is (fits v) k (marksAt able) 0 unseen (children p v)) i;
     done = mark-is 3 _ works-by i;
     failed = mark-is 4 _ breaks-by i;
     down = mark-is 5 _ works-by i;

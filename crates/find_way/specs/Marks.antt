@@ -49,8 +49,8 @@ joined k ok c h = record {
 }
 
 -- F2: before the first child
-unfoldable pub none : Hope
-none = record { idle = true; plain = true; keep = true; turn = false; other = false }
+unfoldable pub unseen : Hope
+unseen = record { idle = true; plain = true; keep = true; turn = false; other = false }
 
 -- F2, F3: and after the children cs, n of them before; `seen c` is what c can get, `ok n` says that place n may be the answer
 unfoldable pub hopeOn : (ℕ → Bool) → ℕ → (ℕ → Marks) → ℕ → Hope → List ℕ → Hope

@@ -14,7 +14,7 @@ ghost use Rattle.plan.specs.Plan.{size, kindByte, children};
 ghost use Rattle.plan.specs.Check.{Accepted};
 ghost use Rattle.way.specs.Way.{canWant, way, wayResult, foundInto, wayInto};
 ghost use Rattle.way.specs.Can.{fitsOf};
-ghost use Rattle.find_way.specs.Marks.{packed, unpacked, joined, none, hopeOn, marksBy, marksAt};
+ghost use Rattle.find_way.specs.Marks.{packed, unpacked, joined, unseen, hopeOn, marksBy, marksAt};
 ghost use Rattle.find_way.specs.Search.{able, opens, Given, Knows, KnowsAll, KnowsBut, Wanted, Open, Put};
 
 // Which marks a node can get: 0, 3, 4, 5.
@@ -138,7 +138,7 @@ fn gather(
     v: usize,
 ) -> Hope
     requires { ⌜ Given (now plan) (now first) (now next) (now answers) × (v < size (now plan)) ⌝ }
-    ensures { λ r. ⌜ r ≡ hopeOn (fitsOf (now (answers .entry)) fixed v) (kindByte (now (plan .entry)) v) (λ c. unpacked (getD (now (table .entry)) c 0)) 0 none (children (now (plan .entry)) v) ⌝ }
+    ensures { λ r. ⌜ r ≡ hopeOn (fitsOf (now (answers .entry)) fixed v) (kindByte (now (plan .entry)) v) (λ c. unpacked (getD (now (table .entry)) c 0)) 0 unseen (children (now (plan .entry)) v) ⌝ }
 {
     let kind = plan[2 * v];
     let mut h = Hope {

@@ -5,7 +5,7 @@ use borrow.Author.Needs.{needs}
 use lib.ListN.{length}
 use Rattle.plan.specs.Plan.{kindByte}
 use Rattle.links.specs.Links.{ledTo}
-use Rattle.find_way.specs.Marks.{none}
+use Rattle.find_way.specs.Marks.{unseen}
 use Rattle.find_way.proofs.GatherLaws.{Gathering, gather-all, gather-done, gather-small, gather-room, gather-less, gather-turn}
 use Rattle.find_way.proofs.gather.Statement.{statement}
 use Rattle.find_way.proofs.gather.Tie as tie
@@ -33,7 +33,7 @@ wide-requires : tie.Need-wide-requires Inv-loop μ-loop
 wide-requires c κs = search needs
 
 loop-holds : tie.Need-loop-holds Inv-loop μ-loop
-unfolding none
+unfolding unseen
 loop-holds c = let r = c .before .before .before .before .before .pre in gather-all (r .0) (r .1) _ (c .wide .ensures)
 
 add-place : tie.Need-add-place Inv-loop μ-loop
