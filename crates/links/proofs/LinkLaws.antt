@@ -52,6 +52,24 @@ module _ (p : List ℕ) (v : ℕ) where
       let b = up-in d (size p - d) (k .0) in
       (record { low = omega arith; high = omega arith; of = eqb-true (parent p c) v (k .1) }, omega arith)
 
+-- a walk by the links
+module _ {p first next : List ℕ} (links : Linked p first next) where
+  pub first-child : (v : ℕ) → v < size p → (getD first v 0 ≡ 0 → ⊥) → Child p v (getD first v 0) × (1 ≤ getD first v 0)
+  first-child v l n = led-child p v 1 (getD first v 0) (omega arith) (omega arith) (links .child v l) n
+
+  pub next-children : (v c : ℕ) → Child p v c → childrenFrom p v (c + 1) ≡ ledTo p v (getD next c 0)
+  next-children v c h = rw (h .of) at (links .sibling c (h .low) (h .high))
+
+  pub next-child : (v c : ℕ) → Child p v c → (getD next c 0 ≡ 0 → ⊥) → Child p v (getD next c 0) × (c + 1 ≤ getD next c 0)
+  next-child v c h n = led-child p v (c + 1) (getD next c 0) (omega arith) (omega (arith, h .high)) (next-children v c h) n
+
+  -- all children, from the first on; and one child on
+  pub led-all : (v : ℕ) → v < size p → children p v ≡ ledTo p v (getD first v 0)
+  led-all v l = from-all p v ∙ links .child v l
+
+  pub led-on : (v c : ℕ) → (c ≡ 0 → ⊥) → Child p v c → ledTo p v c ≡ c ∷ ledTo p v (getD next c 0)
+  led-on v c n h = led-some p v c n ∙ ap (λ cs. c ∷ cs) (next-children v c h)
+
 -- the nodes from v on are linked
 pub record Linking (p first next : List ℕ) (v : ℕ) : Type 0 where
   pub firsts : length first ≡ 160

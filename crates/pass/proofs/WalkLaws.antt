@@ -13,11 +13,11 @@ use Rattle.plan.specs.Plan.{Kind, xor, conditional, kindNumber, isKind, kindOf,
 use Rattle.plan.proofs.PlanLaws.{Child}
 use Rattle.pass.specs.Pass.{Settled, Tally, Walked, goes, goesBy, skip, note, childMark, childSettled, meetBy, meet, walk, nothing, unwalked, badAnswer, endOf, close, settleIf, settleBy, settle}
 use Rattle.pass.specs.Values.{outcomeOf, tallyOf, soFar, comesTo, saysNo, doneBy, endsAs, Ready, Settles}
-use Rattle.links.specs.Links.{childrenFrom, ledTo}
+use Rattle.links.specs.Links.{ledTo}
 use Rattle.pass.proofs.StateLaws.{note-places, Seen, seen-none, seen-more, Ends, seen-end, mark-place}
 use Rattle.pass.proofs.GoesLaws.{late, Over, end-late, fault-ends, over-fault, over-done, goes-on, begins-on}
 use Rattle.pass.proofs.TableLaws.{is-conditional}
-use Rattle.links.proofs.LinkLaws.{from-all, led-none, led-some, led-child}
+use Rattle.links.proofs.LinkLaws.{led-none, first-child, next-child, led-all, led-on}
 use Rattle.pass.proofs.SettleLaws.{Begun}
 
 abbrev walked : Tally → List ℕ → Walked
@@ -66,14 +66,11 @@ module _ {p a f s m₀ : List ℕ} {v k x : ℕ} (b : Begun p a f s m₀ v k x) 
   -- its children, from the first on
   all-left : (fuel : ℕ) → settle p a (suc fuel) v m₀ ≡ close (kindOf k) x (walk (settle p a fuel) (kindOf k) x (ledTo p v (getD f v 0)) (unwalked m₀))
   unfolding settle settleBy settleIf
-  all-left fuel = rw (← b .kind-is, ← b .answer-is, eq-eqb (badAnswer (kindOf k) x) 0 (b .right), from-all p v, b .links .child v (b .ready .node))
-
-  first-child : (getD f v 0 ≡ 0 → ⊥) → Child p v (getD f v 0) × (1 ≤ getD f v 0)
-  first-child n = led-child p v 1 (getD f v 0) (omega arith) (omega (arith, b .ready .node)) (b .links .child v (b .ready .node)) n
+  all-left fuel = rw (← b .kind-is, ← b .answer-is, eq-eqb (badAnswer (kindOf k) x) 0 (b .right), led-all (b .links) v (b .ready .node))
 
   pub first-small : getD f v 0 < 160
   first-small = cases (decided (eqb (getD f v 0) 0)) (λ e. omega (arith, eqb-true (getD f v 0) 0 e))
-      (λ e. omega (arith, first-child (eqb-false (getD f v 0) 0 e) .0 .high, b .ready .accepted .few))
+      (λ e. omega (arith, first-child (b .links) v (b .ready .node) (eqb-false (getD f v 0) 0 e) .0 .high, b .ready .accepted .few))
 
   pub begin-first : saysNo (kindOf k) x ≡ false → (e c : ℕ) → e ≡ soFar (kindOf k) nothing → c ≡ getD f v 0 → Walking p a f s m₀ v k x m₀ e 0 c
   unfolding unwalked nothing
@@ -82,22 +79,16 @@ module _ {p a f s m₀ : List ℕ} {v k x : ℕ} (b : Begun p a f s m₀ v k x) 
     tally = nothing;
     seen = seen-none (kindOf k);
     places = λ w. refl;
-    child = λ n. (first-child n .0, omega (arith, first-child n .1), begins-on x (kindOf k) (b .block) q (b .right));
+    child = λ n. (first-child (b .links) v (b .ready .node) n .0, omega (arith, first-child (b .links) v (b .ready .node) n .1), begins-on x (kindOf k) (b .block) q (b .right));
     long = b .ready .marks;
     so-far = λ fuel l. all-left fuel;
   })
 
   -- one child on, by its link
-  next-children : (c : ℕ) → Child p v c → childrenFrom p v (c + 1) ≡ ledTo p v (getD s c 0)
-  next-children c h = rw (h .of) at (b .links .sibling c (h .low) (h .high))
-
   walk-on : (fuel c : ℕ) (w : Walked) → (c ≡ 0 → ⊥) → Child p v c →
       walk (settle p a fuel) (kindOf k) x (ledTo p v c) w ≡ walk (settle p a fuel) (kindOf k) x (ledTo p v (getD s c 0)) (meet (settle p a fuel) (kindOf k) x w c)
   unfolding walk
-  walk-on fuel c w n h = rw (led-some p v c n, next-children c h)
-
-  next-child : (c : ℕ) → Child p v c → (getD s c 0 ≡ 0 → ⊥) → Child p v (getD s c 0) × (c + 1 ≤ getD s c 0)
-  next-child c h n = led-child p v (c + 1) (getD s c 0) (omega arith) (omega (arith, h .high)) (next-children c h) n
+  walk-on fuel c w n h = rw (led-on (b .links) v c n h)
 
   -- a conditional that is answered by no passes its first child by
   module _ (q : saysNo (kindOf k) x ≡ true) where
@@ -114,19 +105,19 @@ module _ {p a f s m₀ : List ℕ} {v k x : ℕ} (b : Begun p a f s m₀ v k x) 
     some-child e =
         let c : kindOf k ≡ conditional = rw of-seven in
         let r = b .ready in
-        let z : _≡_ {A = ℕ} 0 2 = sym (ap length (from-all p v ∙ b .links .child v (r .node) ∙ led-none p v (getD f v 0) e)) ∙ r .accepted .two v (r .node) (sym (b .kind-is) ∙ c) in
+        let z : _≡_ {A = ℕ} 0 2 = sym (ap length (led-all (b .links) v (r .node) ∙ led-none p v (getD f v 0) e)) ∙ r .accepted .two v (r .node) (sym (b .kind-is) ∙ c) in
         omega arith
 
     pub begin-second : (e c d : ℕ) → e ≡ soFar (kindOf k) nothing → c ≡ getD f v 0 → d ≡ getD s c 0 → Walking p a f s m₀ v k x m₀ e 0 d
     unfolding unwalked nothing skip soFar goes goesBy isKind kindNumber kindOf
     begin-second e c d g h i =
-        let ch = first-child some-child .0 in
+        let ch = first-child (b .links) v (b .ready .node) some-child .0 in
         rw (g, i, h) (record {
           begun = b;
           tally = skip nothing;
           seen = record { is = rw of-seven; no-fault = refl; sound = λ w. absurd (false≢true w) };
           places = λ w. absurd (false≢true (rw of-seven at w));
-          child = λ n. (next-child (getD f v 0) ch n .0, omega (arith, next-child (getD f v 0) ch n .1), rw (of-seven, by-two));
+          child = λ n. (next-child (b .links) v (getD f v 0) ch n .0, omega (arith, next-child (b .links) v (getD f v 0) ch n .1), rw (of-seven, by-two));
           long = b .ready .marks;
           so-far = λ fuel l. all-left fuel
               ∙ ap (close (kindOf k) x) (walk-on fuel (getD f v 0) (unwalked m₀) some-child ch
@@ -176,7 +167,7 @@ module _ {p a f s m₀ : List ℕ} {v k x : ℕ} {m : List ℕ} {e n c : ℕ} (h
     pub turn-less : (c′ : ℕ) → c′ ≡ getD s c 0 → left (size p) c′ < left (size p) c
     turn-less c′ q = rw (q, ne-eqb c 0 l) (cases (decided (eqb (getD s c 0) 0))
         (λ g. rw g (omega (arith, turn-bounds .within)))
-        (λ g. rw g (omega (arith, next-child (h .begun) c (h .child l .0) (eqb-false (getD s c 0) 0 g) .1, turn-bounds .within))))
+        (λ g. rw g (omega (arith, next-child (h .begun .links) v c (h .child l .0) (eqb-false (getD s c 0) 0 g) .1, turn-bounds .within))))
 
     -- the child ended as o and left the marks m′, and its mark is y
     module _ (o : ℕ) (m′ : List ℕ) (long : length m′ ≡ length m) (d : Settles p a m c m′ o) (y : ℕ) (mark : y ≡ childMark (kindOf k) x (tallyOf n) (outcomeOf o)) where
@@ -216,7 +207,7 @@ module _ {p a f s m₀ : List ℕ} {v k x : ℕ} {m : List ℕ} {e n c : ℕ} (h
             tally = t′;
             seen = seen′;
             places = λ u. ap (λ q. q + 1) (h .places u) ∙ (add-one (h .tally .places) ∙ sym (note-places x (h .tally) (outcomeOf o)));
-            child = λ u. (next-child (h .begun) c (h .child l .0) u .0, omega (arith, next-child (h .begun) c (h .child l .0) u .1, h .child l .1), goes-on x (h .tally) (kindOf k) o (d .least) w (sym told ∙ q) (h .begun .right) (h .child l .2));
+            child = λ u. (next-child (h .begun .links) v c (h .child l .0) u .0, omega (arith, next-child (h .begun .links) v c (h .child l .0) u .1, h .child l .1), goes-on x (h .tally) (kindOf k) o (d .least) w (sym told ∙ q) (h .begun .right) (h .child l .2));
             long = length-set m′ c y ∙ long ∙ h .long;
             so-far = met;
           })

@@ -15,6 +15,7 @@ ghost use Rattle.site.specs.Step.{stepOf, hearOf};
 ghost use Rattle.central.specs.Rule.{ruleOf};
 ghost use Rattle.pass.specs.Pass.{passInto};
 ghost use Rattle.reach.specs.Impact.{impactInto};
+ghost use Rattle.way.specs.Way.{wayInto};
 ghost use Rattle.retention.specs.Record.{tableNumber};
 ghost use Rattle.pass_record.specs.PassRecord.{passRecordInto};
 ghost use Rattle.simulation.specs.Run.{simulateOf, recordByInto, recordInto};
@@ -62,7 +63,7 @@ fn of_verdict(v: site::Verdict) -> u32
 pub extern "C" fn vulcedar_version() -> u32
     ensures { λ r. ⌜ r ≡ version ⌝ }
 {
-    66560
+    66816
 }
 
 #[no_mangle]
@@ -149,6 +150,20 @@ pub extern "C" fn vulcedar_impact(
     ensures { λ r. ⌜ now (marks .exit) ≡ impactInto (now (plan .entry)) (now (answers .entry)) (now (marks .entry)) task answer .marks ⌝ }
 {
     packed(impact::impact(plan, answers, marks, task, answer), 0)
+}
+
+#[no_mangle]
+pub extern "C" fn vulcedar_way(
+    plan: &[u8],
+    node: u32,
+    mark: u32,
+    end: u32,
+    answers: &mut [u8],
+) -> u32
+    ensures { λ r. ⌜ r ≡ result (wayInto (now (plan .entry)) node mark end (now (answers .entry)) .number) 0 0 ⌝ }
+    ensures { λ r. ⌜ now (answers .exit) ≡ wayInto (now (plan .entry)) node mark end (now (answers .entry)) .answers ⌝ }
+{
+    packed(find_way::find_way(plan, node, mark, end, answers), 0)
 }
 
 #[no_mangle]
