@@ -24,7 +24,7 @@ fn by_table(letter: u8, long: usize, plan: &[u8], c: &[u8], a: &mut [u8], b: &mu
 }
 
 // The call of the line at a place: version, check, check that writes depths, check of a table, guard, rule, step, hear, event or message,
-// central rule, pass, changed answer, record, pass's record and record by a table, list of steps, rewriting, text. Its result has the number
+// central rule, pass, changed answer, way, record, pass's record and record by a table, list of steps, rewriting, text. Its result has the number
 // in the lowest byte, then a byte for a site or a guard's rule, and the value, where there is one, from bit 16 on.
 pub(crate) fn call(
     text: &[u8],
@@ -52,6 +52,7 @@ pub(crate) fn call(
         b'C' => vulcedar::vulcedar_central(plan, code, node, a, b),
         b'P' => vulcedar::vulcedar_pass(plan, c, a),
         b'I' => vulcedar::vulcedar_impact(plan, c, a, node, code),
+        b'Y' => vulcedar::vulcedar_way(plan, node, code, item::wide(text, line + 12), a),
         b'R' => vulcedar::vulcedar_record(plan, c, a, b),
         b'A'..=b'B' => by_table(letter, code as usize, plan, c, a, b),
         b'L' => simulation::run(plan, c, a, b) as u32,

@@ -178,7 +178,15 @@ fn marks_at(
     let zero = allowed(answers, fixed, v, 0);
     let one = allowed(answers, fixed, v, 1);
     let two = allowed(answers, fixed, v, 2);
-    let m = finish(plan[2 * v], zero, one, two, h, v != target.node, target.mark);
+    let m = finish(
+        plan[2 * v],
+        zero,
+        one,
+        two,
+        h,
+        v != target.node,
+        target.mark,
+    );
     pack(m)
 }
 

@@ -2,11 +2,13 @@
 use mathlib.Core.Path.{_≡_, refl, ap, _∙_}
 use mathlib.Core.Bool.{true, cond, not}
 use mathlib.Core.List.{List, _++_}
+use mathlib.Core.Option.{Option, none, some}
 use Prim.Native.Nat.{ℕ, _<_}
 use borrow.Author.Tests.{ne-eqb, lt-ltb}
 use lib.Dec.{eqb, leb, ltb}
 use lib.ListN.{length, drop, set}
 use Rattle.lists.specs.Seq.{table}
+use Rattle.plan.specs.Check.{fitNumber}
 use Rattle.plan.specs.Plan.{size, depth}
 use Rattle.event.specs.Event.{eventOf}
 use Rattle.event.specs.Site.{Layout, own}
@@ -29,6 +31,7 @@ use Rattle.central.specs.Rule.{Ruled, ruled, rulingNumber, stateOf, ruleInvalid
 use Rattle.central.specs.declared.Ruling.the-variants as ruling
 use Rattle.pass.specs.Pass.{PassResult, passResult, pass, passNumber, passInto}
 use Rattle.reach.specs.Impact.{impactNumber, impactInto}
+use Rattle.way.specs.Way.{canWant, way, WayResult, wayResult, foundInto, wayInto}
 use Rattle.retention.specs.Record.{recordOf, Recorded, recorded, recordedAs}
 use Rattle.pass_record.specs.PassRecord.{passRecordNumber, passRecordInto}
 use Rattle.job.specs.Simulation.{stepFrom, replayFrom, numbersFrom, endMarks}
@@ -118,6 +121,20 @@ unfolding impactInto
 impact-leaves p a m t x =
     let n = impactNumber p a m t x in
     tested (λ (r : PassResult). r .number) (λ r. r .marks ≡ m) n (passResult n m) (passResult 0 (pass p (set a t x) .marks)) refl (λ e. refl)
+
+pub way-leaves : (p : List ℕ) (v m e : ℕ) (a : List ℕ) → (wayInto p v m e a .number ≡ 0 → ⊥) → wayInto p v m e a .answers ≡ a
+unfolding wayInto
+way-leaves p v m e a =
+    let n = fitNumber p (eqb (length a) (size p)) in
+    let kept : WayResult → Type 0 = λ r. r .answers ≡ a in
+    let leaving : WayResult → Type 0 = Leaving (λ r. r .number) kept in
+    refusal (λ (r : WayResult). r .number) kept n (wayResult n a) _ refl
+    (λ z. choice leaving (not (ltb v (size p))) (wayResult 8 a) _ (λ e k. refl)
+    (λ z. choice leaving (not (canWant m e)) (wayResult 29 a) (foundInto (way p v m e) a) (λ e k. refl) (λ z. found (way p v m e))))
+  where
+    found : (r : Option (List ℕ)) → (foundInto r a .number ≡ 0 → ⊥) → foundInto r a .answers ≡ a
+    found none z = unfold foundInto in refl
+    found (some l) z = absurd (z (unfold foundInto in refl))
 
 -- a record, and a list of steps
 module _ (m c : List ℕ) where

@@ -12,8 +12,8 @@ use Rattle.simulation.specs.Run.{simulateOf}
 use Rattle.simulation.proofs.OwnLaws.{own-laid}
 use Rattle.desks.proofs.Main.{desk-check-exact}
 use Rattle.refusals.specs.Claim.{RefusalsLeave, AcceptedPass, Demand1}
-use Rattle.refusals.proofs.Leaves.{rewrite-leaves, depths-leave, guard-leaves, step-left, hear-leaves, simulate-leaves, central-leaves, pass-leaves, impact-leaves, pass-record-leaves, record-leaves, run-leaves, text-leaves, printing-leaves, keep-left, undo-left}
-use Rattle.refusals.proofs.Passes.{common-right, rewrite-passes, depths-pass, guard-passes, step-later, hear-later, central-later, pass-passes, impact-later, pass-record-passes, record-passes, run-passes}
+use Rattle.refusals.proofs.Leaves.{rewrite-leaves, depths-leave, guard-leaves, step-left, hear-leaves, simulate-leaves, central-leaves, pass-leaves, impact-leaves, way-leaves, pass-record-leaves, record-leaves, run-leaves, text-leaves, printing-leaves, keep-left, undo-left}
+use Rattle.refusals.proofs.Passes.{common-right, rewrite-passes, depths-pass, guard-passes, step-later, hear-later, central-later, pass-passes, impact-later, way-later, pass-record-passes, record-passes, run-passes}
 use Rattle.refusals.proofs.Simulated.{simulate-later}
 use Rattle.refusals.proofs.Journal.{keep-later, undo-later}
 use Rattle.refusals.proofs.Points.{name-leaves, name-later, undo-leaves, back-leaves, point-undo-later, point-back-later}
@@ -35,6 +35,7 @@ refusals-leave = record {
   central = λ p code node m k. central-leaves m k p code node;
   pass = pass-leaves;
   impact = impact-leaves;
+  way = way-leaves;
   pass-record = λ p tab a m c. pass-record-leaves m c p tab a;
   end-record = λ p st m c. record-leaves m c p (own p) commonTable st;
   end-record-by = λ p tab st m c. record-leaves m c p (own p) tab st;
@@ -67,6 +68,7 @@ accepted-pass p ok = record {
   central = central-later p ok;
   pass = pass-passes p ok;
   impact = impact-later p ok;
+  way = way-later p ok;
   pass-record = pass-record-passes p ok;
   end-record = λ st m c ls lm lc. record-passes p ok (own p) commonTable st m c ls lm lc ∙ common-right;
   end-record-by = record-passes p ok (own p);

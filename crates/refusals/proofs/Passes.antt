@@ -2,6 +2,7 @@
 use mathlib.Core.Path.{_≡_, refl, sym}
 use mathlib.Core.Bool.{Bool, true, cond, not, _&&_}
 use mathlib.Core.List.{List}
+use mathlib.Core.Option.{Option, none, some}
 use Prim.Native.Nat.{ℕ, _*_, _/_, _%_, _≤_}
 use borrow.Author.Tests.{eq-eqb, eqb-true, le-leb}
 use lib.Dec.{eqb, ltb, leb}
@@ -31,6 +32,7 @@ use Rattle.central.specs.Central.{allowed}
 use Rattle.central.specs.Rule.{Ruled, ruled, rulingNumber, rightSize, stateOf, ruleInvalid, marksAfter, notesAfter, ruleOn, ruleOf}
 use Rattle.central.specs.declared.Ruling.the-variants as ruling
 use Rattle.pass.specs.Pass.{PassResult, passResult, pass, passNumber, passInto}
+use Rattle.way.specs.Way.{canWant, way, WayResult, wayResult, foundInto, wayInto}
 use Rattle.reach.specs.Impact.{areMarks, newNumber, changeNumber, impactNumber, impactInto}
 use Rattle.retention.specs.Record.{commonTable, frameOk, tableOk, tableNumber, Record, recordOf, Recorded, recorded, recordedAs}
 use Rattle.pass_record.specs.PassRecord.{lentNumber, passRecordNumber, passRecordInto}
@@ -143,6 +145,19 @@ module _ (p : List ℕ) (ok : Accepted p) where
           rw (fit (eqb (length a) (size p) && eqb (length m) (size p)) (and-join _ _ (one a la) (one m lm)))
           (choice Later (not (ltb t (size p))) 8 _ (λ e. later 8 refl)
           (λ e. choice Later (not (isKind task (kind p t))) 9 (changeNumber p a m t x) (λ e. later 9 refl) (λ e. change)))
+
+  -- 8, 29 and 30 are found behind 7
+  pub way-later : (v m e : ℕ) (a : List ℕ) → length a ≡ size p → Later (wayInto p v m e a .number)
+  unfolding wayInto
+  way-later v m e a la =
+      let P : WayResult → Type 0 = λ r. Later (r .number) in
+      rw (fit (eqb (length a) (size p)) (one a la))
+      (choice P (not (ltb v (size p))) (wayResult 8 a) _ (λ z. later 8 refl)
+      (λ z. choice P (not (canWant m e)) (wayResult 29 a) (foundInto (way p v m e) a) (λ z. later 29 refl) (λ z. found (way p v m e))))
+    where
+      found : (r : Option (List ℕ)) → Later (foundInto r a .number)
+      found none = unfold foundInto in later 30 refl
+      found (some l) = unfold foundInto in none-later
 
   -- a table's number, and a later one behind it
   behind-table : (tab : List ℕ) (n : ℕ) → Later n → Later (cond (not (eqb (tableNumber tab) 0)) (tableNumber tab) n)

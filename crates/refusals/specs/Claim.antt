@@ -18,6 +18,7 @@ use Rattle.site.specs.Step.{stepOf, hearOf}
 use Rattle.central.specs.Rule.{rulingNumber, ruleOf}
 use Rattle.pass.specs.Pass.{passInto}
 use Rattle.reach.specs.Impact.{impactInto}
+use Rattle.way.specs.Way.{wayInto}
 use Rattle.retention.specs.Record.{tableNumber}
 use Rattle.pass_record.specs.PassRecord.{passRecordInto}
 use Rattle.simulation.specs.Run.{simulateOf, recordInto, recordByInto, runOf}
@@ -94,6 +95,8 @@ pub record RefusalsLeave : Type 0 where
   pub pass : (p a m : List ℕ) → (passInto p a m .number ≡ 0 → ⊥) → passInto p a m .marks ≡ m
   -- vulcedar_impact
   pub impact : (p a m : List ℕ) (t x : ℕ) → (impactInto p a m t x .number ≡ 0 → ⊥) → impactInto p a m t x .marks ≡ m
+  -- vulcedar_way
+  pub way : (p : List ℕ) (v m e : ℕ) (a : List ℕ) → (wayInto p v m e a .number ≡ 0 → ⊥) → wayInto p v m e a .answers ≡ a
   -- vulcedar_pass_record
   pub pass-record : (p tab a m c : List ℕ) → (passRecordInto p tab a m c .number ≡ 0 → ⊥) →
       (passRecordInto p tab a m c .marks ≡ m) × (passRecordInto p tab a m c .classes ≡ c)
@@ -161,6 +164,8 @@ pub record AcceptedPass (p : List ℕ) : Type 0 where
   pub pass : (a m : List ℕ) → length a ≡ size p → length m ≡ size p → Later (passInto p a m .number)
   -- vulcedar_impact
   pub impact : (a m : List ℕ) (t x : ℕ) → length a ≡ size p → length m ≡ size p → Later (impactInto p a m t x .number)
+  -- vulcedar_way
+  pub way : (v m e : ℕ) (a : List ℕ) → length a ≡ size p → Later (wayInto p v m e a .number)
   -- vulcedar_pass_record
   pub pass-record : (tab a m c : List ℕ) → length a ≡ size p → length m ≡ size p → length c ≡ size p → Later (passRecordInto p tab a m c .number)
   -- vulcedar_record

@@ -1,4 +1,4 @@
--- P8: a node off the path to w can get every mark, and so each node on it can get mark 3, or mark 4, with w. Assumes nothing.
+-- Q8: a node off the path to w can get every mark, and so each node on it can get mark 3, or mark 4, with w. Assumes nothing.
 use mathlib.Core.Path.{_≡_, refl, _∙_}
 use mathlib.Core.Bool.{Bool, true, false, cond, _&&_, or-true}
 use mathlib.Core.List.{List, [], _∷_}

@@ -28,7 +28,7 @@ use Rattle.way.proofs.OrderLaws.{less-zeroed, less-apart}
 use Rattle.way.proofs.EveryLaws.{every-open}
 use Rattle.way.proofs.CallLaws.{target-told, target-by, into-lent, fit-told, into-node, into-target, into-found}
 
--- P5: with 0 at a node w whose answer is not read, a list leads there still
+-- Q5: with 0 at a node w whose answer is not read, a list leads there still
 module _ (p : List ℕ) (ok : Accepted p) (v m e : ℕ) (within : v < size p) (l : List ℕ) (r : LeadsTo p v m e l) (w : ℕ) (k : w < size p) (n : Read p l w → ⊥) where
   abbrev zeroed : List ℕ
   zeroed = set l w 0

@@ -60,14 +60,14 @@ canWithin p fits allows (suc levels) v m = allows v m && canBy m (fits v) (λ c 
 unfoldable pub canAt : List ℕ → (ℕ → ℕ → Bool) → (ℕ → ℕ → Bool) → ℕ → ℕ → Bool
 canAt p fits allows v m = canWithin p fits allows (size p) v m
 
--- P2: the answers are a's at the nodes below number i, and free from there on
+-- Q2: the answers are a's at the nodes below number i, and free from there on
 unfoldable pub fitsOf : List ℕ → ℕ → ℕ → ℕ → Bool
 fitsOf a i v x = cond (ltb v i) (eqb x (getD a v 0)) true
 
--- P2: node w is to get mark m, and any other node any mark
+-- Q2: node w is to get mark m, and any other node any mark
 unfoldable pub allowsOf : ℕ → ℕ → ℕ → ℕ → Bool
 allowsOf w m v n = cond (eqb v w) (eqb m n) true
 
--- P2: some answers that are a's at the nodes below number i lead to mark m at w and to end e (proofs/Front.antt)
+-- Q2: some answers that are a's at the nodes below number i lead to mark m at w and to end e (proofs/Front.antt)
 unfoldable pub openAt : List ℕ → ℕ → ℕ → ℕ → List ℕ → ℕ → Bool
 openAt p w m e a i = canAt p (fitsOf a i) (allowsOf w m) 0 e

@@ -1,4 +1,4 @@
--- The table of rule P1, by computation. Assumes nothing.
+-- The table of rule Q1, by computation. Assumes nothing.
 use mathlib.Core.Path.{refl}
 use Rattle.way.specs.Way.{canWant}
 use Rattle.find_way.proofs.can_want.Statement.{statement}
