@@ -7,14 +7,17 @@ use differential::implementation::Wanted;
 use std::hint::black_box;
 use std::time::Instant;
 
-/// The most nodes and levels that a plan may have; the deepest level has tasks.
+/// The most nodes that a plan may have, the most children of a block, and the
+/// most blocks below each other; the deepest level has tasks.
 const NODES: usize = 160;
+const CHILDREN: usize = 32;
 const BLOCKS: usize = 31;
 
 /// How often each target is tried, and how often the slowest ones are once
-/// more; the least time counts.
+/// more. The least time counts; all are tried in turn, so that what else goes on
+/// for a while doesn't meet every try of one of them.
 const TRIES: usize = 5;
-const MORE_TRIES: usize = 50;
+const MORE_TRIES: usize = 100;
 /// How many of the slowest are tried once more.
 const SLOWEST: usize = 10;
 
@@ -37,48 +40,40 @@ pub struct Slowest {
 pub fn slowest(subject: &mut impl Implementation, plan: &[u8]) -> Slowest {
     let nodes = plan.len() / 2;
     let mut answers = vec![0; nodes];
-    let mut timed = [vec![], vec![]];
+    let (mut ways, mut no_ways) = (vec![], vec![]);
     for node in 0..nodes as u32 {
         for (mark, end) in [0, 3, 4, 5].into_iter().flat_map(|mark| [3, 4].map(|end| (mark, end))) {
             let wanted = Wanted { node, mark, end };
-            let found = number(subject.way(plan, wanted, &mut answers)) == 0;
-            let time = least(subject, plan, wanted, &mut answers, TRIES);
-            timed[usize::from(!found)].push(Timed { wanted, time });
+            let has_way = subject.way(plan, wanted, &mut answers) == 0;
+            let targets = if has_way { &mut ways } else { &mut no_ways };
+            targets.push(Timed { wanted, time: f64::INFINITY });
         }
     }
-    let [way, no_way] = timed.map(|timed| slowest_of(subject, plan, timed, &mut answers));
+    let [way, no_way] = [ways, no_ways].map(|targets| slowest_of(subject, plan, targets, &mut answers));
     Slowest { way, no_way }
 }
 
-/// The slowest, once those that seem to be are tried again.
+/// The slowest of these, once those that seem to be are tried again.
 fn slowest_of(
     subject: &mut impl Implementation,
     plan: &[u8],
-    mut timed: Vec<Timed>,
+    mut targets: Vec<Timed>,
     answers: &mut [u8],
 ) -> Option<Timed> {
-    timed.sort_by(|one, two| two.time.total_cmp(&one.time));
-    timed.truncate(SLOWEST);
-    for Timed { wanted, time } in &mut timed {
-        *time = least(subject, plan, *wanted, answers, MORE_TRIES);
-    }
-    timed.into_iter().max_by(|one, two| one.time.total_cmp(&two.time))
+    (0..TRIES).for_each(|_| try_each(subject, plan, &mut targets, answers));
+    targets.sort_by(|one, two| two.time.total_cmp(&one.time));
+    targets.truncate(SLOWEST);
+    (0..MORE_TRIES).for_each(|_| try_each(subject, plan, &mut targets, answers));
+    targets.into_iter().max_by(|one, two| one.time.total_cmp(&two.time))
 }
 
-/// The least time of so many calls.
-fn least(
-    subject: &mut impl Implementation,
-    plan: &[u8],
-    wanted: Wanted,
-    answers: &mut [u8],
-    tries: usize,
-) -> f64 {
-    let mut once = || {
+/// Tries each of these once.
+fn try_each(subject: &mut impl Implementation, plan: &[u8], targets: &mut [Timed], answers: &mut [u8]) {
+    for Timed { wanted, time } in targets {
         let begin = Instant::now();
-        black_box(subject.way(black_box(plan), wanted, answers));
-        begin.elapsed().as_nanos() as f64
-    };
-    (0..tries).map(|_| once()).fold(f64::INFINITY, f64::min)
+        black_box(subject.way(black_box(plan), *wanted, answers));
+        *time = time.min(begin.elapsed().as_nanos() as f64);
+    }
 }
 
 /// Plans of many nodes, by name.
@@ -101,6 +96,7 @@ pub fn shapes() -> Vec<(String, Vec<u8>)> {
         for (place, behind) in [("first", false), ("last", true)] {
             shapes.push((format!("{name}; next block {place}"), deep(kinds, behind)));
         }
+        shapes.push((format!("{name}; all tasks deep"), deepest(kinds)));
     }
     shapes.push(("conditionals".to_string(), conditionals()));
     shapes
@@ -135,6 +131,17 @@ fn deep(kinds: &[u8], behind: bool) -> Vec<u8> {
     while plan.len() / 2 < NODES {
         plan.extend([TASK, above]);
     }
+    plan
+}
+
+/// The same blocks, with all tasks as deep as may be.
+fn deepest(kinds: &[u8]) -> Vec<u8> {
+    let mut plan = vec![];
+    for (level, &kind) in (0..BLOCKS).zip(kinds.iter().cycle()) {
+        plan.extend([kind, if level == 0 { 0xff } else { level as u8 - 1 }]);
+    }
+    let places = (0..BLOCKS).rev().flat_map(|block| [block as u8; CHILDREN - 1]);
+    places.take(NODES - BLOCKS).for_each(|block| plan.extend([TASK, block]));
     plan
 }
 
