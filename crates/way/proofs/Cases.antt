@@ -113,6 +113,7 @@ refusals =
     -- 8, before 29
     ∷ refused P 6 1 5 (7 ∷ 7 ∷ 7 ∷ 7 ∷ 7 ∷ 7 ∷ []) 8
     ∷ refused P 6 3 3 (7 ∷ 7 ∷ 7 ∷ 7 ∷ 7 ∷ 7 ∷ []) 8
+    ∷ refused P 6 0 3 (7 ∷ 7 ∷ 7 ∷ 7 ∷ 7 ∷ 7 ∷ []) 8
     ∷ refused P 4294967295 3 3 (7 ∷ 7 ∷ 7 ∷ 7 ∷ 7 ∷ 7 ∷ []) 8
     -- 29: marks that no node ends with, or that are no marks
     ∷ refused P 0 1 3 (7 ∷ 7 ∷ 7 ∷ 7 ∷ 7 ∷ 7 ∷ []) 29
@@ -172,9 +173,10 @@ ways =
     ∷ there-by P 1 3 3 (0 ∷ 1 ∷ 1 ∷ 1 ∷ 1 ∷ 1 ∷ [])
     ∷ there-by P 1 3 4 (0 ∷ 1 ∷ 0 ∷ 2 ∷ 2 ∷ 0 ∷ [])
     ∷ there-by P 1 4 4 (0 ∷ 2 ∷ 0 ∷ 0 ∷ 0 ∷ 0 ∷ [])
-    -- the xor is not reached, fails, commits though the job fails
+    -- the xor is not reached, fails, commits, commits though the job fails
     ∷ there-by P 2 0 4 (0 ∷ 2 ∷ 0 ∷ 0 ∷ 0 ∷ 0 ∷ [])
     ∷ there-by P 2 4 4 (0 ∷ 1 ∷ 0 ∷ 2 ∷ 2 ∷ 0 ∷ [])
+    ∷ there-by P 2 3 3 (0 ∷ 1 ∷ 1 ∷ 1 ∷ 1 ∷ 1 ∷ [])
     ∷ there-by P 2 3 4 (0 ∷ 1 ∷ 1 ∷ 1 ∷ 1 ∷ 2 ∷ [])
     -- its first child is turned down, fails, commits, is not reached
     ∷ there-by P 3 5 3 (0 ∷ 1 ∷ 2 ∷ 1 ∷ 1 ∷ 1 ∷ [])
@@ -328,6 +330,46 @@ noWays =
     ∷ closed branches 6 4 3
     ∷ []
 
+-- P2: a front of answers that goes on to the target, or not
+pub record Front : Type 0 where
+  pub plan : List ℕ
+  pub node : ℕ
+  pub mark : ℕ
+  pub end : ℕ
+  pub answers : List ℕ
+  pub fixed : ℕ
+  pub goes-on : Bool
+
+front : List ℕ → ℕ → ℕ → ℕ → List ℕ → ℕ → Bool → Front
+front p v m e a i b = record { plan = p; node = v; mark = m; end = e; answers = a; fixed = i; goes-on = b }
+
+-- any byte where the answer is not read; 1 or 2 at a task, and neither 0 nor 3; none where the one before it settles all
+pub fronts : List Front
+fronts =
+    front P 0 3 3 (9 ∷ 9 ∷ 9 ∷ 9 ∷ 9 ∷ 9 ∷ []) 0 true
+    ∷ front P 0 3 3 (9 ∷ 9 ∷ 9 ∷ 9 ∷ 9 ∷ 9 ∷ []) 1 true
+    ∷ front P 0 3 3 (9 ∷ 9 ∷ 9 ∷ 9 ∷ 9 ∷ 9 ∷ []) 2 false
+    ∷ front P 0 3 3 (9 ∷ 1 ∷ 9 ∷ 9 ∷ 9 ∷ 9 ∷ []) 2 true
+    ∷ front P 0 3 3 (9 ∷ 1 ∷ 0 ∷ 9 ∷ 9 ∷ 9 ∷ []) 3 false
+    ∷ front P 0 3 3 (9 ∷ 1 ∷ 2 ∷ 9 ∷ 9 ∷ 9 ∷ []) 3 true
+    ∷ front P 0 3 3 (9 ∷ 1 ∷ 3 ∷ 9 ∷ 9 ∷ 9 ∷ []) 3 false
+    ∷ front P 0 3 3 (9 ∷ 1 ∷ 2 ∷ 2 ∷ 9 ∷ 9 ∷ []) 4 true
+    ∷ front P 0 3 3 (9 ∷ 1 ∷ 2 ∷ 2 ∷ 2 ∷ 9 ∷ []) 5 false
+    ∷ front P 0 3 3 (9 ∷ 1 ∷ 2 ∷ 2 ∷ 1 ∷ 1 ∷ []) 6 true
+    ∷ front P 0 3 3 (9 ∷ 1 ∷ 2 ∷ 2 ∷ 1 ∷ 2 ∷ []) 6 false
+    ∷ front P 3 5 3 (0 ∷ 1 ∷ 1 ∷ 9 ∷ 9 ∷ 9 ∷ []) 3 false
+    ∷ front P 3 4 4 (0 ∷ 2 ∷ 9 ∷ 9 ∷ 9 ∷ 9 ∷ []) 2 false
+    ∷ front P 3 0 4 (0 ∷ 2 ∷ 9 ∷ 9 ∷ 9 ∷ 9 ∷ []) 6 true
+    ∷ front (pair 7) 1 0 3 (9 ∷ 9 ∷ 9 ∷ []) 0 true
+    ∷ front (pair 7) 1 0 3 (1 ∷ 9 ∷ 9 ∷ []) 1 false
+    ∷ front (pair 7) 1 0 3 (2 ∷ 9 ∷ 9 ∷ []) 2 true
+    ∷ front (pair 7) 1 0 3 (2 ∷ 9 ∷ 2 ∷ []) 3 false
+    ∷ front (triple 6) 0 3 3 (0 ∷ 1 ∷ 9 ∷ 9 ∷ []) 4 true
+    ∷ front (triple 6) 3 3 3 (0 ∷ 1 ∷ 9 ∷ 9 ∷ []) 2 false
+    ∷ front (triple 6) 0 4 4 (0 ∷ 2 ∷ 2 ∷ 9 ∷ []) 3 true
+    ∷ front (triple 6) 0 4 4 (0 ∷ 2 ∷ 2 ∷ 0 ∷ []) 4 false
+    ∷ []
+
 -- TESTS. The call looks for a way
 unfoldable pub looks : List ℕ → ℕ → ℕ → ℕ → List ℕ → Bool
 looks p v m e a = (eqb (fitNumber p (eqb (length a) (size p))) 0 && ltb v (size p)) && canWant m e
@@ -411,6 +453,10 @@ all-refusals = refl
 pub all-tried : map called tried ≡ map expected tried
 unfolding wayInto foundInto way smallest firstBelow orElse behind leads canWant passMark pass passOf numberOf rootMark settle settleBy settleIf close walk meet meetBy childSettled unwalked nothing endOf ending note skip childMark goodMark closes badPick badAnswer oneOrTwo goes goesBy fitNumber checkNumber lengthOk atAll kindOk parentOk underBlock fits countOk depthOk kindNumber isKind kindOf size kindByte kind parent childrenBelow children childCount depthWithin depth keep upFrom allBelow tried there-by closed refused
 all-tried = refl
+
+pub all-fronts : map (λ k. openAt (k .plan) (k .node) (k .mark) (k .end) (k .answers) (k .fixed)) fronts ≡ map (λ k. k .goes-on) fronts
+unfolding openAt canAt canWithin canBy worksBy breaksBy stops fitsOf allowsOf kindOf size kindByte kind parent childrenBelow children all keep upFrom fronts front
+all-fronts = refl
 
 ways-right : all isRight ways ≡ true
 unfolding isRight looks leastBy turnBy openAt canAt canWithin canBy worksBy breaksBy stops fitsOf allowsOf canWant fitNumber checkNumber lengthOk atAll kindOk parentOk underBlock fits countOk depthOk kindOf size kindByte kind parent childrenBelow children childCount depthWithin depth all keep upFrom allBelow ways there-by tasks
