@@ -1,4 +1,4 @@
--- Worked calls for a way (rules P6, P7): refused ones, ways, and targets that no list leads to. Worked out by hand from the rules. A way is
+-- Worked calls for a way (rules Q6, Q7): refused ones, ways, and targets that no list leads to. Worked out by hand from the rules. A way is
 -- tested front by front (`leastBy`), which says what `smallest` finds without trying every list. Assumes nothing.
 use mathlib.Core.Path.{_≡_, refl, _∙_, ap₂, subst}
 use mathlib.Core.Bool.{Bool, true, false, cond, _&&_, not}
@@ -330,7 +330,7 @@ noWays =
     ∷ closed branches 6 4 3
     ∷ []
 
--- P2: a front of answers that goes on to the target, or not
+-- Q2: a front of answers that goes on to the target, or not
 pub record Front : Type 0 where
   pub plan : List ℕ
   pub node : ℕ
@@ -472,7 +472,7 @@ none-right = refl
 pub all-none : map called noWays ≡ map expected noWays
 all-none = all-right noWays none-right
 
--- P3: smaller, and not smaller
+-- Q3: smaller, and not smaller
 abbrev pub Smaller : Type 0
 Smaller =
     Less (1 ∷ []) (2 ∷ [])
