@@ -211,7 +211,7 @@ fn fill(
     }
 }
 
-// The same, where only v and the nodes above it are not right.
+// The same, where only `node` and the nodes above it are not right yet.
 fn climb(
     plan: &[u8],
     first: &[u8; 160],

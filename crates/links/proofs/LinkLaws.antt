@@ -101,7 +101,7 @@ module _ {p first next : List ℕ} {v u : ℕ} (t : LinkTurn p first next v u) w
   pub link-below : u < v
   link-below = let b = t .accepted .below v (t .later) (omega (arith, t .so-far .high)) in omega (arith, t .up)
 
-  pub link-within : v < size p
+  link-within : v < size p
   link-within = omega (arith, t .so-far .high)
 
   pub link-small : v < 160

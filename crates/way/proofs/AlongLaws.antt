@@ -1,15 +1,15 @@
--- `mayEnd` against the pass by points: marks along which it goes, and that the pass's own marks are such. Assumes nothing.
+-- `mayEnd` against the pass node by node: marks along which it goes, and that the pass's own marks are such. Assumes nothing.
 use mathlib.Core.Path.{_≡_, refl, sym, _∙_, ap}
-use mathlib.Core.Bool.{Bool, true, false, cond, _&&_, _||_}
+use mathlib.Core.Bool.{Bool, true, false, cond, _&&_, _||_, or-true}
 use mathlib.Core.List.{List, [], _∷_}
-use mathlib.Core.Logic.{_⊎_, inl, inr}
+use mathlib.Core.Logic.{inl, inr}
 use Prim.Native.Nat.{ℕ}
 use lib.Dec.{eqb}
 use borrow.Author.Tests.{eq-eqb, ne-eqb}
 use native.Mathlib.Omega.{arith}
 use Rattle.lists.specs.Member.{In, here, there, Rising, next}
 use Rattle.lists.proofs.Logic.{cases, clash, and-left, and-right, and-join, either}
-use Rattle.lists.proofs.Members.{rising-above}
+use Rattle.lists.proofs.Members.{rising-above, in-none}
 use Rattle.plan.specs.Plan.{Kind}
 use Rattle.pass.specs.Pass.{Outcome, works, breaks, fault, Tally, goes, note, skip, childMark, endOf, numberOf}
 use Rattle.pass_nodes.specs.Nodes.{counted, tallied, nextMark, markAmong}
@@ -27,9 +27,6 @@ same-end breaks works h = clash false h refl
 same-end breaks breaks h = refl
 same-end breaks (fault n) h = clash false h refl
 same-end (fault m) o h = clash false h refl
-
-or-join : (a b : Bool) → (a ≡ true) ⊎ (b ≡ true) → (a || b) ≡ true
-or-join a b h = either a b .1 h
 
 end-same : (o : Outcome) → Clean o → sameEnd o o ≡ true
 unfolding sameEnd
@@ -84,10 +81,7 @@ module _ (can : ℕ → ℕ → Bool) (k : Kind) (x : ℕ) (o : Outcome) where
 
   pub along : (d : ℕ) (cs : List ℕ) (t : Tally) → Rising d cs → mayEnd can k x cs t o ≡ true → Along cs t
   unfolding mayEnd tallied
-  along d [] t r h = record { mark = λ c. 0; each = λ c i. absurd (none i); so = λ e y. (same-end (endOf k x t) o h, λ c i. absurd (none i)) }
-    where
-      none : {c : ℕ} → In c [] → ⊥
-      none = elim [ ]
+  along d [] t r h = record { mark = λ c. 0; each = λ c i. absurd (in-none i); so = λ e y. (same-end (endOf k x t) o h, λ c i. absurd (in-none i)) }
   along d (c ∷ cs) t (next l r) h = go (goes k x t) refl h (λ u z. along c cs u r z)
     where
       go : (b : Bool) → goes k x t ≡ b → cond b
@@ -130,8 +124,10 @@ module _ (can : ℕ → ℕ → Bool) (k : Kind) (x : ℕ) (o : Outcome) where
           let m : can c (childMark k x t (e c)) ≡ true = rw (next-on k x t (e c) g) at this in
           let r : mayEnd can k x cs (note x t (e c)) o ≡ true = rw (count-on k x t (e c) g) at i in
           cases (cl c (here refl) (first-sound k x e c cs t s g))
-          (λ z. or-join (can c (childMark k x t works) && mayEnd can k x cs (note x t works) o) (can c (childMark k x t breaks) && mayEnd can k x cs (note x t breaks) o) (inl (and-join (can c (childMark k x t works)) (mayEnd can k x cs (note x t works) o) (rw z at m) (rw z at r))))
-          (λ z. or-join (can c (childMark k x t works) && mayEnd can k x cs (note x t works) o) (can c (childMark k x t breaks) && mayEnd can k x cs (note x t breaks) o) (inr (and-join (can c (childMark k x t breaks)) (mayEnd can k x cs (note x t breaks) o) (rw z at m) (rw z at r))))
+          (λ z. let h : can c (childMark k x t works) ≡ true = rw z at m in
+          let i : mayEnd can k x cs (note x t works) o ≡ true = rw z at r in rw (h, i))
+          (λ z. let h : can c (childMark k x t breaks) ≡ true = rw z at m in
+          let i : mayEnd can k x cs (note x t breaks) o ≡ true = rw z at r in rw (h, i) (or-true (can c (childMark k x t works) && mayEnd can k x cs (note x t works) o)))
       go false g i =
           let m : can c 0 ≡ true = rw (next-off k x t (e c) g) at this in
           let r : mayEnd can k x cs (skip t) o ≡ true = rw (count-off k x t (e c) g) at i in

@@ -6,6 +6,7 @@ use mathlib.Core.Logic.{_⊎_, inl, inr}
 use Prim.Native.Nat.{ℕ, _≤_, _<_}
 use lib.Dec.{eqb}
 use lib.ListN.{length}
+use native.Mathlib.Omega.{arith}
 use borrow.Author.Tests.{eqb-true, eq-eqb, ne-eqb, lt-ltb, le-ltb}
 use Rattle.lists.proofs.Logic.{cases, both, either}
 use Rattle.plan.specs.Plan.{size}
@@ -20,7 +21,7 @@ module _ (p : List ℕ) (v m e : ℕ) where
   unfolding canWant
   target-told h l =
       let r = both (((eqb m 0 || eqb m 3) || eqb m 4) || eqb m 5) (eqb e 3 || eqb e 4) .0 h in
-      record { node = l; mark = marks (r .0); end = cases (either (eqb e 3) (eqb e 4) .0 (r .1)) (λ q. inl (eqb-true e 3 q)) (λ q. inr (eqb-true e 4 q)) }
+      record { node = omega arith; mark = marks (r .0); end = cases (either (eqb e 3) (eqb e 4) .0 (r .1)) (λ q. inl (eqb-true e 3 q)) (λ q. inr (eqb-true e 4 q)) }
     where
       marks : (((eqb m 0 || eqb m 3) || eqb m 4) || eqb m 5) ≡ true → (m ≡ 0) ⊎ ((m ≡ 3) ⊎ ((m ≡ 4) ⊎ (m ≡ 5)))
       marks h = cases (either ((eqb m 0 || eqb m 3) || eqb m 4) (eqb m 5) .0 h)

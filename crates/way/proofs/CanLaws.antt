@@ -1,11 +1,9 @@
 -- `canWithin` with enough levels: its equation, which no longer counts them. Assumes nothing.
 use mathlib.Core.Path.{_≡_, refl, sym, _∙_, ap, ap₂}
-use mathlib.Core.Bool.{Bool, true, false, cond, _&&_, _||_}
+use mathlib.Core.Bool.{Bool, _&&_, _||_}
 use mathlib.Core.List.{List, [], _∷_}
 use Prim.Native.Nat.{ℕ, zero, suc, _+_, _≤_, _<_}
-use lib.Dec.{eqb}
 use native.Mathlib.Omega.{arith}
-use Rattle.lists.specs.Seq.{all}
 use Rattle.lists.specs.Member.{In, here, there}
 use Rattle.lists.proofs.Members.{all-same}
 use Rattle.plan.specs.Plan.{Kind, task, serial, and, or, xor, contingency, conditional, waiting, kind, children, size}
@@ -19,47 +17,45 @@ stops-same : (ok f g h f′ g′ h′ : ℕ → Bool) (n : ℕ) (cs : List ℕ) 
     stops ok f g h n cs ≡ stops ok f′ g′ h′ n cs
 unfolding stops
 stops-same ok f g h f′ g′ h′ n [] x y z = refl
-stops-same ok f g h f′ g′ h′ n (c ∷ cs) x y z = ap₂ _||_
-    (ap₂ _&&_ (x c (here refl)) (stops-same ok f g h f′ g′ h′ (suc n) cs (λ d i. x d (there i)) (λ d i. y d (there i)) (λ d i. z d (there i))))
-    (ap₂ _&&_ (ap (λ b. b && ok (suc n)) (y c (here refl))) (all-same h h′ cs (λ d i. z d (there i))))
+stops-same ok f g h f′ g′ h′ n (c ∷ cs) x y z = simp (
+  x c (here refl),
+  y c (here refl),
+  all-same h h′ cs (λ d i. z d (there i)),
+  stops-same ok f g h f′ g′ h′ (suc n) cs (λ d i. x d (there i)) (λ d i. y d (there i)) (λ d i. z d (there i)),
+)
 
 module _ (fits : ℕ → Bool) (f g : ℕ → ℕ → Bool) (cs : List ℕ) (h : (c : ℕ) → In c cs → (m : ℕ) → f c m ≡ g c m) where
-  one : (m : ℕ) (c : ℕ) → In c cs → gets f m c ≡ gets g m c
-  one m c i = h c i m
-
   two : (m n : ℕ) (c : ℕ) → In c cs → getsOne f m n c ≡ getsOne g m n c
   two m n c i = ap₂ _||_ (h c i m) (h c i n)
+
+  -- whatever marks a table asks for
+  ruleset marks = (two)
 
   works-same : (k : Kind) → worksBy fits f k cs ≡ worksBy fits g k cs
   unfolding worksBy
   works-same task = refl
-  works-same serial = all-same _ _ cs (one 3)
-  works-same and = all-same _ _ cs (one 3)
-  works-same or = stops-same _ _ _ _ _ _ _ 0 cs (one 4) (one 3) (two 3 4)
-  works-same xor = stops-same _ _ _ _ _ _ _ 0 cs (two 5 4) (one 3) (two 5 4)
-  works-same contingency = stops-same _ _ _ _ _ _ _ 0 cs (one 4) (one 3) (one 0)
-  works-same conditional = stops-same _ _ _ _ _ _ _ 0 cs (one 0) (one 3) (one 0)
-  works-same waiting = all-same _ _ cs (one 3)
+  works-same serial = all-same _ _ cs (search marks)
+  works-same and = all-same _ _ cs (search marks)
+  works-same or = stops-same _ _ _ _ _ _ _ _ cs (search marks) (search marks) (search marks)
+  works-same xor = stops-same _ _ _ _ _ _ _ _ cs (search marks) (search marks) (search marks)
+  works-same contingency = stops-same _ _ _ _ _ _ _ _ cs (search marks) (search marks) (search marks)
+  works-same conditional = stops-same _ _ _ _ _ _ _ _ cs (search marks) (search marks) (search marks)
+  works-same waiting = all-same _ _ cs (search marks)
 
   breaks-same : (k : Kind) → breaksBy fits f k cs ≡ breaksBy fits g k cs
   unfolding breaksBy
   breaks-same task = refl
-  breaks-same serial = stops-same _ _ _ _ _ _ _ 0 cs (one 3) (one 4) (one 0)
-  breaks-same and = stops-same _ _ _ _ _ _ _ 0 cs (one 3) (one 4) (two 3 4)
-  breaks-same or = all-same _ _ cs (one 4)
-  breaks-same xor = ap (λ b. fits 0 && b) (all-same _ _ cs (one 4))
-  breaks-same contingency = all-same _ _ cs (one 4)
-  breaks-same conditional = stops-same _ _ _ _ _ _ _ 0 cs (one 0) (one 4) (one 0)
-  breaks-same waiting = stops-same _ _ _ _ _ _ _ 0 cs (one 3) (one 4) (two 3 4)
+  breaks-same serial = stops-same _ _ _ _ _ _ _ _ cs (search marks) (search marks) (search marks)
+  breaks-same and = stops-same _ _ _ _ _ _ _ _ cs (search marks) (search marks) (search marks)
+  breaks-same or = all-same _ _ cs (search marks)
+  breaks-same xor = ap (λ b. fits 0 && b) (all-same _ _ cs (search marks))
+  breaks-same contingency = all-same _ _ cs (search marks)
+  breaks-same conditional = stops-same _ _ _ _ _ _ _ _ cs (search marks) (search marks) (search marks)
+  breaks-same waiting = stops-same _ _ _ _ _ _ _ _ cs (search marks) (search marks) (search marks)
 
   by-same : (m : ℕ) (k : Kind) → canBy m fits f k cs ≡ canBy m fits g k cs
   unfolding canBy
-  by-same m k = go (eqb m 0) (eqb m 4)
-    where
-      go : (b d : Bool) → cond b (all (gets f 0) cs) (cond d (breaksBy fits f k cs) (worksBy fits f k cs)) ≡ cond b (all (gets g 0) cs) (cond d (breaksBy fits g k cs) (worksBy fits g k cs))
-      go true d = all-same _ _ cs (one 0)
-      go false true = breaks-same k
-      go false false = works-same k
+  by-same m k = simp (all-same (gets f 0) (gets g 0) cs (search marks), breaks-same k, works-same k)
 
 module _ (p : List ℕ) (ok : Accepted p) (fits allows : ℕ → ℕ → Bool) where
   can-levels : (f g v m : ℕ) → size p ≤ v + f → size p ≤ v + g → v < size p → canWithin p fits allows f v m ≡ canWithin p fits allows g v m

@@ -220,7 +220,7 @@ module _ (can : ℕ → ℕ → Bool) (x : ℕ) where
       swap false true d = refl
       swap false false d = refl
 
--- `stops` with a place of its allows
+-- `stops` at the first child, or later
 module _ (ok f g h : ℕ → Bool) (n c : ℕ) (cs : List ℕ) where
   stops-keep : f c ≡ true → stops ok f g h (suc n) cs ≡ true → stops ok f g h n (c ∷ cs) ≡ true
   unfolding stops

@@ -1,5 +1,5 @@
--- Answers fixed below node i: free list goes on from there if and only if the root can get its end. Then the smallest list is some byte by
--- byte. Assumes nothing.
+-- Where the answers below node i are fixed: some list goes on from there to the target if and only if the front is open (`openAt`). Assumes
+-- nothing.
 use mathlib.Core.Path.{_≡_, refl, sym, _∙_, ap}
 use mathlib.Core.Bool.{Bool, true, false, _&&_}
 use mathlib.Core.List.{List, _++_}
@@ -110,7 +110,7 @@ module _ (p : List ℕ) (ok : Accepted p) (w m e : ℕ) (within : w < size p) (t
     list-leads = leads-by p w m e _ (record {
       bytes = record { long = list-long; small = list-small };
       accepted = accepted p ok fits allows free e feasible three;
-      mark = sym (eqb-true _ _ (rw (eq-eqb w w refl) at (marked p ok fits allows free e feasible three w within .1)));
+      mark = sym (eqb-true _ _ (rw (eq-eqb w w refl) at (marked p ok fits allows free e feasible three w within)));
       end = answers-end p ok fits allows free e feasible three;
     })
 

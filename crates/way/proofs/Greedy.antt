@@ -16,11 +16,11 @@ use Rattle.plan.specs.Plan.{size}
 use Rattle.plan.specs.Check.{Accepted}
 use Rattle.way.specs.Smallest.{behind, smallest}
 use Rattle.way.specs.Way.{leads, way}
-use Rattle.way.proofs.SmallestLaws.{isFound, smallest-step, smallest-none}
+use Rattle.way.proofs.SmallestLaws.{isFound, is-none, smallest-step, smallest-none}
 use Rattle.way.specs.Can.{openAt}
 use Rattle.way.proofs.Front.{open-found}
 
--- a front put before what was some
+-- a front put before the list, if there is one
 unfoldable pub after : List ℕ → Option (List ℕ) → Option (List ℕ)
 after pre (some l) = some (pre ++ l)
 after pre none = none
@@ -35,7 +35,7 @@ unfolding after behind
 after-behind pre b (some l) = ap some (sym (append-assoc pre (b ∷ []) l))
 after-behind pre b none = refl
 
-pub small-set : (a : List ℕ) (i b : ℕ) → i < length a → b < 256 → ((v : ℕ) → v < i → getD a v 0 < 256) → (v : ℕ) → v < suc i → getD (set a i b) v 0 < 256
+small-set : (a : List ℕ) (i b : ℕ) → i < length a → b < 256 → ((v : ℕ) → v < i → getD a v 0 < 256) → (v : ℕ) → v < suc i → getD (set a i b) v 0 < 256
 small-set a i b l s h v k = cases (decided (eqb v i))
     (λ q. rw (eqb-true v i q, getD-set-same a i b 0 l) s)
     (λ q. let ne : v ≡ i → ⊥ = eqb-false v i q in rw (getD-set-other a i v b 0 ne) (h v (omega arith)))
@@ -69,19 +69,17 @@ module _ {p : List ℕ} {w m e : ℕ} (q : Asked p w m e) where
   unfolding way
   chosen-none a y o = record { fills = y; small = λ v l. absurd (omega arith); few = omega arith; goes-on = o; whole = sym (after-nil (way p w m e)) ∙ ap (λ n. after [] (smallest n (leads p w m e))) from-none }
 
-  -- before at all
+  -- before any byte is fixed
+  way-open : (a : List ℕ) → length a ≡ size p → isFound (smallest (size p) (leads p w m e)) ≡ openAt p w m e a 0
+  way-open a y = ap (λ n. isFound (smallest n (leads p w m e))) from-none ∙ is-open a y 0 (λ v l. absurd (omega arith)) (omega arith)
+
   pub way-empty : (a : List ℕ) → length a ≡ size p → openAt p w m e a 0 ≡ false → way p w m e ≡ none
   unfolding way
-  way-empty a y o = go (smallest (size p) (leads p w m e)) (ap (λ n. isFound (smallest n (leads p w m e))) from-none ∙ is-open a y 0 (λ v l. absurd (omega arith)) (omega arith) ∙ o)
-    where
-      go : (r : Option (List ℕ)) → isFound r ≡ false → r ≡ none
-      go (some l) h = unfold isFound in clash true refl h
-      go none h = refl
+  way-empty a y o = is-none (smallest (size p) (leads p w m e)) (way-open a y ∙ o)
 
-  -- some
   pub open-way : (a : List ℕ) → length a ≡ size p → openAt p w m e a 0 ≡ true → (l : List ℕ) × (way p w m e ≡ some l)
   unfolding way
-  open-way a y o = go (smallest (size p) (leads p w m e)) refl (ap (λ n. isFound (smallest n (leads p w m e))) from-none ∙ is-open a y 0 (λ v l. absurd (omega arith)) (omega arith) ∙ o)
+  open-way a y o = go (smallest (size p) (leads p w m e)) refl (way-open a y ∙ o)
     where
       go : (r : Option (List ℕ)) → smallest (size p) (leads p w m e) ≡ r → isFound (smallest (size p) (leads p w m e)) ≡ true → (l : List ℕ) × (smallest (size p) (leads p w m e) ≡ some l)
       go (some l) q h = (l, q)
@@ -102,12 +100,12 @@ module _ {p : List ℕ} {w m e : ℕ} (q : Asked p w m e) where
     one-less : size p - i ≡ suc (size p - suc i)
     one-less = omega arith
 
-    -- this byte does
+    -- an open front goes on with some byte
     pub open-some : openAt p w m e a i ≡ true → ((c : ℕ) → c < 256 → openAt p w m e (set a i c) (i + 1) ≡ false) → ⊥
     open-some o before = clash (isFound (smallest (size p - i) (rest a i))) (is-open a fills i small (omega arith) ∙ o)
         (ap (λ n. isFound (smallest n (rest a i))) one-less ∙ smallest-none (size p - suc i) (rest a i) (λ c k. next c k ∙ before c k))
 
-    -- the first that does
+    -- the smallest list goes on with the first byte that does
     left-on : (b : ℕ) → b < 256 → ((c : ℕ) → c < b → openAt p w m e (set a i c) (i + 1) ≡ false) → openAt p w m e (set a i b) (i + 1) ≡ true →
         after (take i a) (smallest (size p - i) (rest a i)) ≡ after (take (suc i) (set a i b)) (smallest (size p - suc i) (rest (set a i b) (suc i)))
     left-on b s before this = ap (λ n. after (take i a) (smallest n (rest a i))) one-less

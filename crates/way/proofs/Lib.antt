@@ -11,3 +11,4 @@ pub mod OrderLaws
 pub mod EveryLaws
 pub mod CallLaws
 pub mod Main
+pub mod Cases

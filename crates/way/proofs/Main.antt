@@ -20,7 +20,7 @@ use Rattle.pass_nodes.specs.Nodes.{passMark, Read}
 use Rattle.pass_nodes.proofs.Main.{unread-free}
 use Rattle.way.specs.Smallest.{Less}
 use Rattle.way.specs.Way.{canWant, leads, way, wayResult, foundInto, wayInto}
-use Rattle.way.specs.Claim.{Target, LeadsTo, IsWay, WayRight, WayPasses, WayThere, WayNumbers, NoWay, OneWay, EveryNode}
+use Rattle.way.specs.Claim.{Target, LeadsTo, IsWay, WayRight, WayPasses, WayThere, WayNumbers, WayOrNone, NoWay, OneWay, EveryNode}
 use Rattle.way.proofs.SmallestLaws.{found-least, no-list}
 use Rattle.way.proofs.Front.{leads-told, leads-by}
 use Rattle.way.proofs.Greedy.{open-way}
@@ -133,6 +133,13 @@ way-right p v m e a l h =
       target = target-told p v m e (searched-marks p v m e a 0 l h (inl refl)) within;
       is-way = way-is p ok v m e within l (found-0 (way p v m e) a l (searched p v m e a 0 l h (inl refl)));
     }
+
+pub way-or-none : WayOrNone
+way-or-none p ok v m e t a long = go (way p v m e) refl
+  where
+    go : (r : Option (List ℕ)) → way p v m e ≡ r → ((l : List ℕ) × (wayInto p v m e a ≡ wayResult 0 l)) ⊎ (wayInto p v m e a ≡ wayResult 30 a)
+    go none h = inr (into-found p v m e a ok long (t .node) (target-by p v m e t) ∙ unfold foundInto in ap (λ r. foundInto r a) h)
+    go (some l) h = inl (l, into-found p v m e a ok long (t .node) (target-by p v m e t) ∙ unfold foundInto in ap (λ r. foundInto r a) h)
 
 pub no-way : NoWay
 no-way p v m e a b h = way-none p (searched-plan p v m e a 30 b h (inr refl)) v m e (searched-node p v m e a 30 b h (inr refl))

@@ -137,7 +137,7 @@ module _ (p : List ℕ) (ok : Accepted p) (fits allows : ℕ → ℕ → Bool) (
 
   module _ (end : ℕ) where
     -- the mark chosen for v, by those chosen above it
-    pub aim : ℕ → ℕ → ℕ
+    aim : ℕ → ℕ → ℕ
     aim zero v = 0
     aim (suc n) v = cond (eqb v 0) end (cond (eqb (aim n (parent p v)) 0) 0 (pickAt (parent p v) (aim n (parent p v)) .marks v))
 
@@ -150,7 +150,7 @@ module _ (p : List ℕ) (ok : Accepted p) (fits allows : ℕ → ℕ → Bool) (
         let low = ok .below v (omega arith) s in
         rw e (ap (λ y. cond (eqb y 0) 0 (pickAt (parent p v) y .marks v)) (aim-levels n j (parent p v) (omega arith) (omega arith) (omega arith))))
 
-    pub aimAt : ℕ → ℕ
+    aimAt : ℕ → ℕ
     aimAt v = aim (suc v) v
 
     aim-root : aimAt 0 ≡ end
@@ -255,10 +255,8 @@ module _ (p : List ℕ) (ok : Accepted p) (fits allows : ℕ → ℕ → Bool) (
           ap-cond true h = refl
           ap-cond false h = h refl
 
-      pub marked : (v : ℕ) → v < size p → (passMark p answers v ≡ aimAt v) × (allows v (passMark p answers v) ≡ true)
-      marked v s =
-          let q = mark-by (suc v) v (omega arith) s in
-          (q, rw q (and-left _ _ (sym (can-is p ok fits allows v (aimAt v) s) ∙ abled v s)))
+      pub marked : (v : ℕ) → v < size p → allows v (passMark p answers v) ≡ true
+      marked v s = rw (mark-by (suc v) v (omega arith) s) (and-left _ _ (sym (can-is p ok fits allows v (aimAt v) s) ∙ abled v s))
 
       pub answers-long : length answers ≡ size p
       unfolding answers

@@ -18,7 +18,7 @@ unfoldable pub isFound : Option (List ℕ) → Bool
 isFound (some l) = true
 isFound none = false
 
-pub found-not : (l : List ℕ) → some l ≡ none → ⊥
+found-not : (l : List ℕ) → some l ≡ none → ⊥
 found-not l e = Option·none-ne-some l (sym e)
 
 -- what is behind b
@@ -44,7 +44,7 @@ record First (f : ℕ → Option (List ℕ)) (n b : ℕ) (l : List ℕ) : Type 0
   before : (c : ℕ) → c < b → f c ≡ none
 
 module _ (f : ℕ → Option (List ℕ)) where
-  pub below-empty : (n : ℕ) → firstBelow f n ≡ none → (b : ℕ) → b < n → f b ≡ none
+  below-empty : (n : ℕ) → firstBelow f n ≡ none → (b : ℕ) → b < n → f b ≡ none
   unfolding firstBelow orElse
   below-empty zero h b l = absurd (omega arith)
   below-empty (suc n) h b l = go (firstBelow f n) refl h (λ e k. below-empty n e b k)
@@ -63,13 +63,13 @@ module _ (f : ℕ → Option (List ℕ)) where
       go (some m) e q i = let r = i (e ∙ q) in (r .0, record { low = omega (arith, r .1 .low); is = r .1 .is; before = r .1 .before })
       go none e q i = (n, record { low = omega arith; is = q; before = below-empty n e })
 
-  pub below-none : (n : ℕ) → ((c : ℕ) → c < n → f c ≡ none) → firstBelow f n ≡ none
+  below-none : (n : ℕ) → ((c : ℕ) → c < n → f c ≡ none) → firstBelow f n ≡ none
   unfolding firstBelow orElse
   below-none zero k = refl
   below-none (suc n) k = rw (below-none n (λ c j. k c (omega arith)), k n (omega arith))
 
-  -- the first that is some
-  pub below-first : (n b : ℕ) → b < n → ((c : ℕ) → c < b → f c ≡ none) → (f b ≡ none → ⊥) → firstBelow f n ≡ f b
+  -- the first that there is
+  below-first : (n b : ℕ) → b < n → ((c : ℕ) → c < b → f c ≡ none) → (f b ≡ none → ⊥) → firstBelow f n ≡ f b
   unfolding firstBelow orElse
   below-first zero b l h s = absurd (omega arith)
   below-first (suc n) b l h s = cases (decided (eqb b n))
@@ -90,7 +90,7 @@ no-list zero test h (b ∷ l) y = absurd (omega (arith, y .long))
 no-list (suc n) test h [] y = absurd (omega (arith, y .long))
 no-list (suc n) test h (b ∷ l) y = no-list n (λ l. test (b ∷ l)) (behind-empty b _ (below-empty _ 256 h b (y .small 0))) l (bytes-rest y)
 
--- what is some
+-- of the lists of n bytes that pass the test l is the smallest
 pub record Smallest (n : ℕ) (test : List ℕ → Bool) (l : List ℕ) : Type 0 where
   pub bytes : Bytes n l
   pub passes : test l ≡ true
@@ -140,7 +140,7 @@ found-some n test a y t = go (smallest n test) refl
     go (some l) e = refl
     go none e = clash (test a) t (no-list n test e a y)
 
-is-none : (r : Option (List ℕ)) → isFound r ≡ false → r ≡ none
+pub is-none : (r : Option (List ℕ)) → isFound r ≡ false → r ≡ none
 unfolding isFound
 is-none (some l) e = clash true refl e
 is-none none e = refl
@@ -153,7 +153,7 @@ behind-none : (b : ℕ) (r : Option (List ℕ)) → r ≡ none → behind b r �
 unfolding behind
 behind-none b r e = rw e
 
--- the first byte for which a list is some
+-- the first byte behind which there is a list
 pub smallest-step : (n : ℕ) (test : List ℕ → Bool) (b : ℕ) → b < 256 → ((c : ℕ) → c < b → isFound (smallest n (λ l. test (c ∷ l))) ≡ false) →
     isFound (smallest n (λ l. test (b ∷ l))) ≡ true → smallest (suc n) test ≡ behind b (smallest n (λ l. test (b ∷ l)))
 unfolding smallest
@@ -162,7 +162,7 @@ smallest-step n test b low before this =
     below-first (λ c. behind c (r c)) 256 b low (λ c k. behind-none c (r c) (is-none (r c) (before c k)))
     (λ e. clash (isFound (r b)) this (none-is (r b) (behind-empty b (r b) e)))
 
--- no byte for which a list is some
+-- no byte behind which there is one
 pub smallest-none : (n : ℕ) (test : List ℕ → Bool) → ((c : ℕ) → c < 256 → isFound (smallest n (λ l. test (c ∷ l))) ≡ false) → isFound (smallest (suc n) test) ≡ false
 unfolding smallest
 smallest-none n test before =

@@ -47,7 +47,7 @@ breaksBy fits can contingency cs = all (gets can 4) cs
 breaksBy fits can conditional cs = stops fits (gets can 0) (gets can 4) (gets can 0) 0 cs
 breaksBy fits can waiting cs = stops anywhere (gets can 3) (gets can 4) (getsOne can 3 4) 0 cs
 
--- F3, F4: it can get mark m: 0 where none of its children is reached, 4 where it fails, any other where it works
+-- F3, F4: it can get mark m: 0 where none of its children is reached, 4 where it fails, 3 or 5 where it works
 unfoldable pub canBy : ℕ → (ℕ → Bool) → (ℕ → ℕ → Bool) → Kind → List ℕ → Bool
 canBy m fits can k cs = cond (eqb m 0) (all (gets can 0) cs) (cond (eqb m 4) (breaksBy fits can k cs) (worksBy fits can k cs))
 
@@ -64,10 +64,10 @@ canAt p fits allows v m = canWithin p fits allows (size p) v m
 unfoldable pub fitsOf : List ℕ → ℕ → ℕ → ℕ → Bool
 fitsOf a i v x = cond (ltb v i) (eqb x (getD a v 0)) true
 
--- Q2: node w is to get mark m, and any other node any mark
+-- Q2: node v is to get mark m, and any other node w any mark
 unfoldable pub allowsOf : ℕ → ℕ → ℕ → ℕ → Bool
-allowsOf w m v n = cond (eqb v w) (eqb m n) true
+allowsOf v m w n = cond (eqb w v) (eqb m n) true
 
--- Q2: some answers that are a's at the nodes below number i lead to mark m at w and to end e (proofs/Front.antt)
+-- Q2: some answers that are a's at the nodes below number i lead to mark m at v and to end e (proofs/Front.antt)
 unfoldable pub openAt : List ℕ → ℕ → ℕ → ℕ → List ℕ → ℕ → Bool
-openAt p w m e a i = canAt p (fitsOf a i) (allowsOf w m) 0 e
+openAt p v m e a i = canAt p (fitsOf a i) (allowsOf v m) 0 e

@@ -65,13 +65,18 @@ pub record Numbers (p : List ℕ) (v m e : ℕ) (a : List ℕ) : Type 0 where
 abbrev pub WayNumbers : Type 0
 WayNumbers = (p : List ℕ) (v m e : ℕ) (a : List ℕ) → Numbers p v m e a
 
+-- Q6: to a target there is a way or there is none
+abbrev pub WayOrNone : Type 0
+WayOrNone = (p : List ℕ) → Accepted p → (v m e : ℕ) → Target p v m e → (a : List ℕ) → length a ≡ size p →
+    ((l : List ℕ) × (wayInto p v m e a ≡ wayResult 0 l)) ⊎ (wayInto p v m e a ≡ wayResult 30 a)
+
 -- Q7: 30 only where no list leads there
 abbrev pub NoWay : Type 0
 NoWay = (p : List ℕ) (v m e : ℕ) (a b : List ℕ) → wayInto p v m e a ≡ wayResult 30 b → (l : List ℕ) → LeadsTo p v m e l → ⊥
 
 -- Q4: there is one way at most
 abbrev pub OneWay : Type 0
-OneWay = (p : List ℕ) (v m e : ℕ) (l n : List ℕ) → IsWay p v m e l → IsWay p v m e n → l ≡ n
+OneWay = (p : List ℕ) (v m e : ℕ) (l k : List ℕ) → IsWay p v m e l → IsWay p v m e k → l ≡ k
 
 -- Q8: every node can commit, and every node can fail, with the job
 abbrev pub EveryNode : Type 0

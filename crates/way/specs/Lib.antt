@@ -1,4 +1,4 @@
--- Letters: p a plan, a b l answers, v w nodes, m the mark wanted at a node, e the end wanted of the root, b c bytes, n how many, x an answer.
+-- Letters: p a plan, a b k l answers, v the node that a target names, w another, m the mark and e the end wanted, c a child, n how many, x an answer.
 pub mod Smallest
 pub mod Way
 pub mod Can

@@ -51,10 +51,10 @@ element-copy-out-next : tie.Need-element-copy-out-next Inv-loop μ-loop
 element-copy-out-next c = omega (arith, link-below (turn c), link-small (turn c))
 
 element-write-next : tie.Need-element-write-next Inv-loop μ-loop
-element-write-next c = omega (arith, link-small (turn (c .before)))
+element-write-next c = omega (arith, link-below (turn (c .before)), link-small (turn (c .before)))
 
 cast-first : tie.Need-cast-first Inv-loop μ-loop
-cast-first c = omega (arith, link-small (turn (c .before)))
+cast-first c = omega (arith, link-below (turn (c .before)), link-small (turn (c .before)))
 
 element-write-first : tie.Need-element-write-first Inv-loop μ-loop
 element-write-first c = omega (arith, link-below (turn (c .before)), link-small (turn (c .before)))
