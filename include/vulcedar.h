@@ -90,7 +90,7 @@ extern "C" {
 
 /* The version of this header. vulcedar_version() is that of the library that is linked. */
 #define VULCEDAR_VERSION_MAJOR 1
-#define VULCEDAR_VERSION_MINOR 4
+#define VULCEDAR_VERSION_MINOR 5
 #define VULCEDAR_VERSION_PATCH 0
 #define VULCEDAR_VERSION (65536u * VULCEDAR_VERSION_MAJOR + 256u * VULCEDAR_VERSION_MINOR + VULCEDAR_VERSION_PATCH)
 
@@ -267,9 +267,10 @@ uint32_t vulcedar_impact(const uint8_t *plan, size_t plan_len, const uint8_t *an
  * Which answers lead there? mark is wanted for node: VULCEDAR_NOT_STARTED, _COMMITTED, _FAILED or _TURNED_DOWN; end is wanted
  * for the root: VULCEDAR_COMMITTED or _FAILED. answers has one byte a node. On 0 it has answers that vulcedar_pass accepts and
  * with which it leaves both marks; of all such answers the smallest, compared byte by byte from node 0 on, so that an answer
- * which the pass does not look at is 0. What was in answers before does not matter, and it is written only on 0. 1 to 6; 7; 8;
- * 29 for another mark or end; 30 if there are no such answers, whatever bytes are tried. Where mark and end are both
- * VULCEDAR_COMMITTED, or both VULCEDAR_FAILED, there are some, at every node of every plan.
+ * which the pass does not look at is 0 (at an xor that it comes to, it looks at 0 too: none of its children offers). What was in
+ * answers before does not matter, and it is written only on 0. 1 to 6; 7; 8; 29 for another mark or end; 30 if there are no such
+ * answers, whatever bytes are tried. Where mark and end are both VULCEDAR_COMMITTED, or both VULCEDAR_FAILED, there are some, at
+ * every node of every plan.
  */
 uint32_t vulcedar_way(const uint8_t *plan, size_t plan_len, uint32_t node, uint32_t mark, uint32_t end, uint8_t *answers,
                       size_t answers_len);

@@ -12,11 +12,11 @@ use Rattle.lists.proofs.Logic.{cases, decided}
 use Rattle.plan.specs.Plan.{size}
 use Rattle.plan.specs.Check.{Accepted}
 use Rattle.way.specs.Way.{way, wayResult, foundInto}
-use Rattle.way.specs.Can.{openAt}
+use Rattle.way.specs.Can.{fitsOf, openAt}
 use Rattle.way.proofs.Greedy.{Asked, Chosen, open-some, chosen-none, chosen-turn, chosen-all, way-empty}
 use Rattle.find_way.specs.declared.Target.{Target}
-use Rattle.find_way.specs.Search.{Given, KnowsAll, KnowsBut, opens, Wanted, Open, Put}
-use Rattle.find_way.proofs.FrontLaws.{front-on, front-back, opens-is}
+use Rattle.find_way.specs.Search.{Given, KnowsAll, Knew, opens, Wanted, Open, Put}
+use Rattle.find_way.proofs.FrontLaws.{fits-front, opens-is}
 
 abbrev pub asked : {p : List ℕ} {t : Target} → Accepted p → Wanted p t → Asked p (t .node) (t .mark) (t .end)
 asked ok w = record { accepted = ok; within = w .node; three = w .end }
@@ -25,19 +25,22 @@ asked ok w = record { accepted = ok; within = w .node; three = w .end }
 abbrev pub given-on : {p first next a : List ℕ} (b : List ℕ) → length b ≡ length a → Given p first next a → Given p first next b
 given-on b l g = record { accepted = g .accepted; linked = g .linked; answers = l ∙ g .answers }
 
--- bytes below b do not do; the answers are as they were but at i, and the table but on the path to i
+-- bytes below b do not do; the answers are as they were but at i, and the table is right for what was fixed there before
 pub record Choosing (p first next : List ℕ) (t : Target) (a₀ : List ℕ) (i : ℕ) (a table : List ℕ) (b : ℕ) : Type 0 where
   pub given : Given p first next a₀
   pub before : Open p t a₀ i
   pub long : length a ≡ length a₀
   pub same : (y : ℕ) → set a i y ≡ set a₀ i y
-  pub known : KnowsBut p a₀ i t table i
+  pub was : List ℕ
+  pub upto : ℕ
+  pub fixed-as : (v x : ℕ) → (v ≡ i → ⊥) → fitsOf was upto v x ≡ fitsOf a₀ i v x
+  pub known : KnowsAll p was upto t table
   pub small : b < 256
   pub none : (c : ℕ) → c < b → openAt p (t .node) (t .mark) (t .end) (set a₀ i c) (i + 1) ≡ false
 
 module _ {p first next : List ℕ} {t : Target} {a₀ : List ℕ} {i : ℕ} where
   pub choose-none : (table : List ℕ) → Given p first next a₀ → Open p t a₀ i → KnowsAll p a₀ i t table → Choosing p first next t a₀ i a₀ table 0
-  choose-none table g o k = record { given = g; before = o; long = refl; same = λ y. refl; known = record { long = k .long; each = λ v s n. k .each v s }; small = omega arith; none = λ c l. absurd (omega arith) }
+  choose-none table g o k = record { given = g; before = o; long = refl; same = λ y. refl; was = a₀; upto = i; fixed-as = λ v x n. refl; known = k; small = omega arith; none = λ c l. absurd (omega arith) }
 
   module _ {a table : List ℕ} {b : ℕ} (h : Choosing p first next t a₀ i a table b) where
     pub choose-long : length (set a i b) ≡ length a₀
@@ -49,8 +52,11 @@ module _ {p first next : List ℕ} {t : Target} {a₀ : List ℕ} {i : ℕ} wher
     pub choose-in : i < length a
     choose-in = omega (arith, h .long, h .given .answers, h .before .within)
 
-    pub choose-known : KnowsBut p (set a i b) (i + 1) t table i
-    choose-known = rw (h .same b) (front-on p (h .given .accepted) a₀ i b t table (h .known))
+    fixed-now : (v x : ℕ) → (v ≡ i → ⊥) → fitsOf (set a i b) (i + 1) v x ≡ fitsOf a₀ i v x
+    fixed-now v x n = ap (λ z. fitsOf z (i + 1) v x) (h .same b) ∙ fits-front a₀ i b v x n
+
+    pub choose-known : Knew p (set a i b) (i + 1) t table i
+    choose-known = record { was = h .was; upto = h .upto; same = λ v x n. h .fixed-as v x n ∙ sym (fixed-now v x n); known = h .known }
 
     -- the table after the climb
     module _ (table′ : List ℕ) (k : KnowsAll p (set a i b) (i + 1) t table′) where
@@ -74,7 +80,10 @@ module _ {p first next : List ℕ} {t : Target} {a₀ : List ℕ} {i : ℕ} wher
           before = h .before;
           long = choose-long;
           same = λ y. set-set a i b y ∙ h .same y;
-          known = front-back p (h .given .accepted) a₀ i b t table′ (rw (h .same b) at k);
+          was = set a i b;
+          upto = i + 1;
+          fixed-as = fixed-now;
+          known = k;
           small = choose-small;
           none = none-on;
         }

@@ -16,7 +16,9 @@ use Rattle.way.specs.Can.{stops, anywhere, gets, getsOne, worksBy, breaksBy, ca
 use Rattle.way.proofs.CanLaws.{can-is}
 use Rattle.find_way.specs.declared.Marks.{Marks}
 use Rattle.find_way.specs.declared.Hope.{Hope}
+use Rattle.find_way.specs.declared.Target.{Target}
 use Rattle.find_way.specs.Marks.{packed, unpacked, asAnd, asOr, keeps, turns, rests, plains, joined, unseen, hopeOn, worksTo, breaksTo, marksBy, marksAt}
+use Rattle.find_way.specs.Search.{able}
 
 pub fits-is : (a : List ℕ) (i v x : ℕ) → (leb i v || eqb x (getD a v 0)) ≡ fitsOf a i v x
 unfolding fitsOf
@@ -45,6 +47,13 @@ unpack-pack m = go (m .idle) (m .done) (m .failed) (m .down)
     go false false true false = unfold packed unpacked in refl
     go false false false true = unfold packed unpacked in refl
     go false false false false = unfold packed unpacked in refl
+
+pub pack-same : (m n : Marks) → packed m ≡ packed n → m ≡ n
+pack-same m n e = sym (unpack-pack m) ∙ ap unpacked e ∙ unpack-pack n
+
+pub marks-same : (f g : ℕ → ℕ → Bool) (v : ℕ) → ((m : ℕ) → f v m ≡ g v m) → marksAt f v ≡ marksAt g v
+unfolding marksAt
+marks-same f g v h = λ i. record { idle = h 0 i; done = h 3 i; failed = h 4 i; down = h 5 i }
 
 -- decided before, by this child or behind it
 onward : (t k r f g a s : Bool) → ((((t && r) || (k && g)) && a) || ((k && f) && s)) ≡ ((t && (r && a)) || (k && ((f && s) || (g && a))))
@@ -125,14 +134,14 @@ module _ (fits : ℕ → Bool) (can : ℕ → ℕ → Bool) (cs : List ℕ) wher
       (simp or-false (turn-is fits 8 (marksAt can) (getsOne can 3 4) (gets can 3) (λ c. simp or-false) (λ c. simp or-false) anywhere (gets can 4) (λ c n. simp or-false (sym (and-true (can c 4)))) 0 unseen cs))
 
 module _ (p : List ℕ) (accepted : Accepted p) (fits : ℕ → ℕ → Bool) (w m : ℕ) (v : ℕ) (l : v < size p) where
-  abbrev able : ℕ → ℕ → Bool
-  able = canAt p fits (allowsOf w m)
+  abbrev gettable : ℕ → ℕ → Bool
+  gettable = canAt p fits (allowsOf w m)
 
   abbrev k : ℕ
   k = kindByte p v
 
   abbrev h : Hope
-  h = hopeOn (fits v) k (marksAt able) 0 unseen (children p v)
+  h = hopeOn (fits v) k (marksAt gettable) 0 unseen (children p v)
 
   allows-is : (n : ℕ) → (not (eqb v w) || eqb m n) ≡ allowsOf w m v n
   unfolding allowsOf
@@ -143,21 +152,33 @@ module _ (p : List ℕ) (accepted : Accepted p) (fits : ℕ → ℕ → Bool) (w
       go false = refl
 
   -- one mark n
-  mark-is : (n : ℕ) (b : Bool) → b ≡ canBy n (fits v) able (kind p v) (children p v) → (b && (not (eqb v w) || eqb m n)) ≡ able v n
-  mark-is n b e = ap₂ _&&_ e (allows-is n) ∙ and-comm (canBy n (fits v) able (kind p v) (children p v)) (allowsOf w m v n) ∙ sym (can-is p accepted fits (allowsOf w m) v n l)
+  mark-is : (n : ℕ) (b : Bool) → b ≡ canBy n (fits v) gettable (kind p v) (children p v) → (b && (not (eqb v w) || eqb m n)) ≡ gettable v n
+  mark-is n b e = ap₂ _&&_ e (allows-is n) ∙ and-comm (canBy n (fits v) gettable (kind p v) (children p v)) (allowsOf w m v n) ∙ sym (can-is p accepted fits (allowsOf w m) v n l)
 
-  works-by : worksTo k (fits v 1) h ≡ worksBy (fits v) able (kind p v) (children p v)
-  works-by = unfold kind in works-is (fits v) able (children p v) k (accepted .low v l) (accepted .high v l)
+  works-by : worksTo k (fits v 1) h ≡ worksBy (fits v) gettable (kind p v) (children p v)
+  works-by = unfold kind in works-is (fits v) gettable (children p v) k (accepted .low v l) (accepted .high v l)
 
-  breaks-by : breaksTo k (fits v 0) (fits v 2) h ≡ breaksBy (fits v) able (kind p v) (children p v)
-  breaks-by = unfold kind in breaks-is (fits v) able (children p v) k (accepted .low v l) (accepted .high v l)
+  breaks-by : breaksTo k (fits v 0) (fits v 2) h ≡ breaksBy (fits v) gettable (kind p v) (children p v)
+  breaks-by = unfold kind in breaks-is (fits v) gettable (children p v) k (accepted .low v l) (accepted .high v l)
 
   -- what `finish` answers is what the node can get
-  pub finish-is : marksBy k (fits v 0) (fits v 1) (fits v 2) h (not (eqb v w)) m ≡ marksAt able v
+  pub finish-is : marksBy k (fits v 0) (fits v 1) (fits v 2) h (not (eqb v w)) m ≡ marksAt gettable v
   unfolding marksBy marksAt canBy
   finish-is = λ i. record {
-    idle = mark-is 0 (h .idle) (unfold unseen in idle-is (fits v) k (marksAt able) 0 unseen (children p v)) i;
+    idle = mark-is 0 (h .idle) (unfold unseen in idle-is (fits v) k (marksAt gettable) 0 unseen (children p v)) i;
     done = mark-is 3 _ works-by i;
     failed = mark-is 4 _ breaks-by i;
     down = mark-is 5 _ works-by i;
   }
+
+-- what a node can get goes by its own answer and by what its children can get
+pub node-same : (p : List ℕ) → Accepted p → (a b : List ℕ) (i j : ℕ) (t : Target) (v : ℕ) → v < size p → ((x : ℕ) → fitsOf a i v x ≡ fitsOf b j v x) →
+    ((c : ℕ) → In c (children p v) → marksAt (able p a i t) c ≡ marksAt (able p b j t) c) → marksAt (able p a i t) v ≡ marksAt (able p b j t) v
+node-same p ok a b i j t v l f h =
+    sym (finish-is p ok (fitsOf a i) (t .node) (t .mark) v l)
+    ∙ (λ n. marksBy (kindByte p v) (f 0 n) (f 1 n) (f 2 n) (hopes n) (not (eqb v (t .node))) (t .mark))
+    ∙ finish-is p ok (fitsOf b j) (t .node) (t .mark) v l
+  where
+    hopes : hopeOn (fitsOf a i v) (kindByte p v) (marksAt (able p a i t)) 0 unseen (children p v) ≡ hopeOn (fitsOf b j v) (kindByte p v) (marksAt (able p b j t)) 0 unseen (children p v)
+    hopes = (λ n. hopeOn (λ x. f x n) (kindByte p v) (marksAt (able p a i t)) 0 unseen (children p v))
+        ∙ hope-same (fitsOf b j v) (kindByte p v) (marksAt (able p a i t)) (marksAt (able p b j t)) 0 unseen (children p v) h

@@ -8,7 +8,6 @@ use lib.Dec.{eqb}
 use lib.ListN.{length, getD, set}
 use Rattle.plan.specs.Plan.{size}
 use Rattle.plan.specs.Check.{Accepted}
-use Rattle.plan.specs.Under.{Under}
 use Rattle.links.specs.Links.{Linked}
 use Rattle.way.specs.Can.{canAt, fitsOf, allowsOf, openAt}
 use Rattle.find_way.specs.declared.Target.{Target}
@@ -33,10 +32,12 @@ pub record KnowsAll (p a : List ℕ) (i : ℕ) (t : Target) (table : List ℕ) :
   pub long : length table ≡ 160
   pub each : (v : ℕ) → v < size p → Knows p a i t table v
 
--- Q2: of every node but w and those above it
-pub record KnowsBut (p a : List ℕ) (i : ℕ) (t : Target) (table : List ℕ) (w : ℕ) : Type 0 where
-  pub long : length table ≡ 160
-  pub each : (v : ℕ) → v < size p → (Under p v w → ⊥) → Knows p a i t table v
+-- Q2: it said so of every node by answers that were fixed otherwise, at w alone
+pub record Knew (p a : List ℕ) (i : ℕ) (t : Target) (table : List ℕ) (w : ℕ) : Type 0 where
+  pub was : List ℕ
+  pub upto : ℕ
+  pub same : (v x : ℕ) → (v ≡ w → ⊥) → fitsOf was upto v x ≡ fitsOf a i v x
+  pub known : KnowsAll p was upto t table
 
 -- Q2: the root can get the end e, by its byte in the table
 unfoldable pub opens : ℕ → ℕ → Bool

@@ -4,7 +4,7 @@
 //
 // The answers are fixed node by node, at each node the first byte with which some answers still lead there. Whether some do is known
 // from a table: which marks each node can get, by those that its children can get. A byte tried at a node changes the table only on
-// the path from that node up to the root.
+// the path from that node up to the root, and there only up to the first node that can get what it could before.
 ghost use mathlib.Core.Path.{_≡_};
 ghost use mathlib.Core.Bool.{cond};
 ghost use Prim.Native.Nat.{ℕ, _<_, _+_};
@@ -15,7 +15,7 @@ ghost use Rattle.plan.specs.Check.{Accepted};
 ghost use Rattle.way.specs.Way.{canWant, way, wayResult, foundInto, wayInto};
 ghost use Rattle.way.specs.Can.{fitsOf};
 ghost use Rattle.find_way.specs.Marks.{packed, unpacked, joined, unseen, hopeOn, marksBy, marksAt};
-ghost use Rattle.find_way.specs.Search.{able, opens, Given, Knows, KnowsAll, KnowsBut, Wanted, Open, Put};
+ghost use Rattle.find_way.specs.Search.{able, opens, Given, Knows, KnowsAll, Knew, Wanted, Open, Put};
 
 // Which marks a node can get: 0, 3, 4, 5.
 struct Marks {
@@ -211,7 +211,8 @@ fn fill(
     }
 }
 
-// The same, where only `node` and the nodes above it are not right yet.
+// The same, where only the answer of `node` is another than when the table was made. Above a node that can get what it could before,
+// nothing changes.
 fn climb(
     plan: &[u8],
     first: &[u8; 160],
@@ -222,12 +223,15 @@ fn climb(
     table: &mut [u8; 160],
     node: usize,
 )
-    requires { ⌜ Given (now plan) (now first) (now next) (now answers) × (node < size (now plan)) × KnowsBut (now plan) (now answers) fixed target (now table) node ⌝ }
+    requires { ⌜ Given (now plan) (now first) (now next) (now answers) × (node < size (now plan)) × Knew (now plan) (now answers) fixed target (now table) node ⌝ }
     ensures { λ _. ⌜ KnowsAll (now (plan .entry)) (now (answers .entry)) fixed target (now (table .exit)) ⌝ }
 {
     let mut v = node;
     loop {
         let m = marks_at(plan, first, next, answers, fixed, target, table, v);
+        if m == table[v] {
+            return;
+        }
         table[v] = m;
         if v == 0 {
             return;
