@@ -1,6 +1,6 @@
 -- `mayEnd` kind by kind: the choices left open come down to `all` and `stops`. Assumes nothing.
 use mathlib.Core.Path.{_≡_, refl, sym, _∙_, ap}
-use mathlib.Core.Bool.{Bool, true, false, cond, _&&_, _||_, not, and-false, or-false, or-true}
+use mathlib.Core.Bool.{Bool, true, false, cond, _&&_, _||_, not, and-true, and-false, or-false, or-true, or-comm, and-or-distrib-right}
 use mathlib.Core.List.{List, [], _∷_}
 use mathlib.Core.Logic.{_⊎_, inl, inr}
 use Prim.Native.Nat.{ℕ, suc, _+_, _≤_, _<_}
@@ -16,29 +16,10 @@ use Rattle.way.specs.Can.{stops, anywhere, gets, getsOne, worksBy, break
 use Rattle.way.proofs.Choices.{sameEnd, mayEnd}
 
 and-or : (a b c : Bool) → ((a && c) || (b && c)) ≡ ((a || b) && c)
-and-or true true true = refl
-and-or true true false = refl
-and-or true false true = refl
-and-or true false false = refl
-and-or false true true = refl
-and-or false true false = refl
-and-or false false true = refl
-and-or false false false = refl
-
-and-on : (a : Bool) → ((a && true) ≡ a)
-and-on true = refl
-and-on false = refl
+and-or a b c = sym (and-or-distrib-right a b c)
 
 turned : (a b y z : Bool) → ((a && y) || (b && z)) ≡ ((b && z) || ((a && true) && y))
-turned true true true true = refl
-turned true true true false = refl
-turned true true false true = refl
-turned true true false false = refl
-turned true false true z = refl
-turned true false false z = refl
-turned false true y true = refl
-turned false true y false = refl
-turned false false y z = refl
+turned a b y z = or-comm (a && y) (b && z) ∙ ap (λ c. (b && z) || (c && y)) (sym (and-true a))
 
 module _ (can : ℕ → ℕ → Bool) (k : Kind) (x : ℕ) where
   -- a turn of the walk
@@ -71,7 +52,7 @@ module _ (can : ℕ → ℕ → Bool) (x : ℕ) where
       let q = serial-after cs (note x t breaks) w refl in
       let g : goes serial x t ≡ true = rw (w, b) in (
         on can serial x c cs t works (all (gets can 3) cs) false g (r .0) (q .0) ∙ rw (and-false (can c 4), or-false),
-        on can serial x c cs t breaks _ _ g (r .1) (q .1) ∙ rw (and-on (can c 4)),
+        on can serial x c cs t breaks _ _ g (r .1) (q .1) ∙ rw (and-true (can c 4)),
       )
 
   -- contingency: until one worked, and after
@@ -118,7 +99,7 @@ module _ (can : ℕ → ℕ → Bool) (x : ℕ) where
       let q = and-after cs (note x t breaks) w refl in
       let g : goes and x t ≡ true = rw w in (
         on can and x c cs t works (all (gets can 3) cs) false g (r .0) (q .0) ∙ rw (and-false (can c 4), or-false),
-        on can and x c cs t breaks _ _ g (r .1) (q .1) ∙ rw (and-on (can c 4)),
+        on can and x c cs t breaks _ _ g (r .1) (q .1) ∙ rw (and-true (can c 4)),
       )
 
   waits : (cs : List ℕ) (t : Tally) (o : Outcome) → mayEnd can waiting x cs t o ≡ mayEnd can and x cs t o
@@ -185,7 +166,7 @@ module _ (can : ℕ → ℕ → Bool) (x : ℕ) where
       let m : childMark xor x t works ≡ 3 = rw e in
       let r = xor-after cs (note x t works) w refl (rw (h, e)) (omega arith) in
       let z = past (getsOne can 5 4) (gets can 3) (getsOne can 5 4) (suc (t .places)) cs (omega arith) in
-      on can xor x c cs t works _ false g r (q ∙ z) ∙ rw (m, z, e, and-false (can c 4), and-false (can c 5 || can c 4), and-on (can c 3), or-false))
+      on can xor x c cs t works _ false g r (q ∙ z) ∙ rw (m, z, e, and-false (can c 4), and-false (can c 5 || can c 4), and-true (can c 3), or-false))
       (λ e. let m : childMark xor x t works ≡ 5 = rw e in
       let r = xor-on cs (note x t works) w (rw (h, e)) in
       on can xor x c cs t works _ _ g r q ∙ rw (m, e, and-false (can c 3), or-false) (and-or (can c 5) (can c 4) _))
@@ -274,12 +255,12 @@ module _ (can : ℕ → ℕ → Bool) (c d : ℕ) where
   branch-works : (x : ℕ) → (x ≡ 1) ⊎ (x ≡ 2) →
       mayEnd can conditional x (c ∷ d ∷ []) nothing works ≡ stops (λ m. eqb m x) (gets can 0) (gets can 3) (gets can 0) 0 (c ∷ d ∷ [])
   unfolding mayEnd endOf ending badPick closes sameEnd all stops note skip nothing goes goesBy childMark goodMark isKind kindNumber
-  branch-works x h = cases h (λ e. rw e (simp (and-on, and-false, or-false))) (λ e. rw e (simp (and-on, and-false, or-false)))
+  branch-works x h = cases h (λ e. rw e (simp (and-true, and-false, or-false))) (λ e. rw e (simp (and-true, and-false, or-false)))
 
   branch-breaks : (x : ℕ) → (x ≡ 1) ⊎ (x ≡ 2) →
       mayEnd can conditional x (c ∷ d ∷ []) nothing breaks ≡ stops (λ m. eqb m x) (gets can 0) (gets can 4) (gets can 0) 0 (c ∷ d ∷ [])
   unfolding mayEnd endOf ending badPick closes sameEnd all stops note skip nothing goes goesBy childMark goodMark isKind kindNumber
-  branch-breaks x h = cases h (λ e. rw e (simp (and-on, and-false))) (λ e. rw e (simp (and-on, and-false, or-false)))
+  branch-breaks x h = cases h (λ e. rw e (simp (and-true, and-false))) (λ e. rw e (simp (and-true, and-false, or-false)))
 
 pair : (cs : List ℕ) → length cs ≡ 2 → (c : ℕ) × (d : ℕ) × (cs ≡ c ∷ d ∷ [])
 pair [] h = absurd (omega arith)
