@@ -7,9 +7,6 @@ use reference::exported::*;
 use reference::journal::Entry;
 use reference::points::SLOTS;
 
-/// Bytes that no function writes by chance.
-const LEFT: u8 = 0xa5;
-
 /// A serial with two tasks: the block is at the highest desk there is, the
 /// first task at the lowest.
 const SERIAL: &str = "02ff9f 010000 010005";

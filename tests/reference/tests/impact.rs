@@ -8,9 +8,6 @@ use reference::exported::impact;
 use reference::impact::reaches;
 use reference::plan::{Kind, Plan};
 
-/// Bytes that no function writes by chance.
-const LEFT: u8 = 0xa5;
-
 /// The marks after a change, from the marks of the pass over the answers; or
 /// the refusal, which leaves them.
 fn changed(plan: &str, answers: &[u8], task: u32, answer: u32) -> Result<Vec<u8>, u32> {
@@ -118,18 +115,8 @@ const XOR: &str = "05ff 0100 0100";
 /// lengths, of the task.
 #[test]
 fn plan_lengths_and_task_come_first() {
-    let deep: String = (0..33).map(|level: u8| format!("02{:02x}", level.wrapping_sub(1))).collect();
-    let refused = [
-        ("", 1),
-        ("02", 1),
-        ("09ff 0101", 2),
-        ("02fe 0101", 3),
-        ("01ff 0100", 4),
-        ("02ff 0700", 5),
-        (&format!("{deep} 0120"), 6),
-    ];
-    for (plan, number) in refused {
-        assert_eq!(number_of(plan, &[], &[LEFT; 3], 300, 300), number, "{plan}");
+    for (plan, number) in refused_plans() {
+        assert_eq!(number_of(&plan, &[], &[LEFT; 3], 300, 300), number, "{plan}");
     }
     for length in [0, 1, 2, 4, 6] {
         assert_eq!(number_of(XOR, &vec![9; length], &[LEFT; 3], 300, 300), 7);

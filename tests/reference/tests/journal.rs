@@ -6,9 +6,6 @@ use common::*;
 use reference::exported::{check, keep, number, simulate, undo};
 use reference::journal::Entry;
 
-/// A byte that stands in every entry that nobody wrote.
-const LEFT: u8 = 0xa5;
-
 fn bit(code: u32) -> u8 {
     1 << (code - 1)
 }

@@ -8,9 +8,6 @@ use reference::journal::Entry;
 use reference::points::{Name, SLOTS};
 use std::collections::BTreeMap;
 
-/// A byte that stands in every entry that nobody wrote.
-const LEFT: u8 = 0xa5;
-
 /// A serial with one task.
 const SMALL: &str = "02ff 0100";
 

@@ -6,9 +6,6 @@ mod common;
 use common::*;
 use reference::exported::*;
 
-/// Bytes that no function writes by chance.
-const LEFT: u8 = 0xa5;
-
 /// Numbers that are no code and, in a small plan, no node.
 const STRANGE: [u32; 8] = [9, 10, 128, 255, 256, 257, 1 << 31, u32::MAX];
 

@@ -9,9 +9,6 @@ use reference::lists::{ways, ways_up_to};
 use reference::plan::{Kind, Plan};
 use reference::way::Target;
 
-/// Bytes that no function writes by chance.
-const LEFT: u8 = 0xa5;
-
 /// The marks and the ends that can be wanted.
 const MARKS: [u8; 4] = [0, 3, 4, 5];
 const ENDS: [u8; 2] = [3, 4];
@@ -297,18 +294,8 @@ fn number_of(plan: &str, node: u32, mark: u32, end: u32, length: usize) -> u32 {
 /// Each number comes before the next, whatever else is wrong.
 #[test]
 fn refusals_come_in_order() {
-    let deep: String = (0..33).map(|level: u8| format!("02{:02x}", level.wrapping_sub(1))).collect();
-    let refused = [
-        ("", 1),
-        ("02", 1),
-        ("09ff 0101", 2),
-        ("02fe 0101", 3),
-        ("01ff 0100", 4),
-        ("02ff 0700", 5),
-        (&format!("{deep} 0120"), 6),
-    ];
-    for (plan, number) in refused {
-        assert_eq!(number_of(plan, 300, 1, 5, 9), number, "{plan}");
+    for (plan, number) in refused_plans() {
+        assert_eq!(number_of(&plan, 300, 1, 5, 9), number, "{plan}");
     }
     for length in [0, 1, 5, 7, 12] {
         assert_eq!(number_of(P, 6, 1, 5, length), 7);

@@ -15,6 +15,9 @@ pub const TURNED_DOWN: u32 = 8;
 /// The site that says: the event happens.
 pub const HAPPENS: u32 = 0xff;
 
+/// Bytes that no function writes by chance.
+pub const LEFT: u8 = 0xa5;
+
 /// Plan P of the document.
 pub const P: &str = "02ff 0100 0500 0102 0102 0100";
 
@@ -25,6 +28,22 @@ pub const COMMON_TABLE: [u8; 12] = [0, 0, 1, 3, 2, 3, 3, 1, 4, 2, 5, 2];
 pub fn hex(text: &str) -> Vec<u8> {
     let digits: Vec<u8> = text.chars().filter_map(|c| c.to_digit(16)).map(|d| d as u8).collect();
     digits.chunks(2).map(|pair| pair[0] << 4 | pair[1]).collect()
+}
+
+/// A plan for each number from 1 to 6, with faults of higher numbers in it where
+/// that can be.
+pub fn refused_plans() -> Vec<(String, u32)> {
+    let deep: String = (0..33).map(|level: u8| format!("02{:02x}", level.wrapping_sub(1))).collect();
+    let plans = [
+        ("", 1),
+        ("02", 1),
+        ("09ff 0101", 2),
+        ("02fe 0101", 3),
+        ("01ff 0100", 4),
+        ("02ff 0700", 5),
+        (&format!("{deep} 0120"), 6),
+    ];
+    plans.map(|(plan, number)| (plan.to_string(), number)).to_vec()
 }
 
 /// A serial root with so many tasks.
