@@ -1,5 +1,5 @@
 /*
- * Vulcedar 1.5.0: jobs that follow a plan, decided by the sites that do the work.
+ * Vulcedar 1.6.0: jobs that follow a plan, decided by the sites that do the work.
  *
  * A plan is a tree of tasks and blocks. Every node has a site; a site keeps one row of bytes, what it has heard, and
  * decides the events of its node from that row alone. This header is all that a host needs; docs/GUIDE.md shows how a
@@ -10,6 +10,13 @@
  * task has no children, a conditional two, any other block 1 to VULCEDAR_CHILDREN_MOST. A plan has at most
  * VULCEDAR_NODES_MOST nodes, none deeper than VULCEDAR_DEPTH_MOST; the root has depth 1. All sites of a job need the same
  * plan, byte for byte, from the job's beginning to its end.
+ *
+ * NUMBERING. One tree can be numbered in several ways, each a plan of its own. A plan is in the fixed numbering if every
+ * subtree has its numbers together: behind each node stands the subtree of its first child, then that of its second, and so
+ * on. Each tree has one such plan. Another editor's depth form has two bytes a line, a kind and a depth, in the order of the
+ * fixed numbering; the root's depth is 1, and the parent of any other line is the last one before it that is one less deep.
+ * Everything that a host stores by node numbers (rows, states, journals, answers, marks) belongs to one numbering: renumber
+ * a plan before its job begins, not during it.
  *
  * EVENTS. A code (enum vulcedar_code, named by verbs; marks have participles) and a node. A pick of a node is decided at
  * the site of the node's parent, any other event at the site of its own node.
@@ -90,7 +97,7 @@ extern "C" {
 
 /* The version of this header. vulcedar_version() is that of the library that is linked. */
 #define VULCEDAR_VERSION_MAJOR 1
-#define VULCEDAR_VERSION_MINOR 5
+#define VULCEDAR_VERSION_MINOR 6
 #define VULCEDAR_VERSION_PATCH 0
 #define VULCEDAR_VERSION (65536u * VULCEDAR_VERSION_MAJOR + 256u * VULCEDAR_VERSION_MINOR + VULCEDAR_VERSION_PATCH)
 
@@ -150,6 +157,8 @@ enum vulcedar_number {
     VULCEDAR_BAD_PICK = 14,        /* pass: an xor's answer names no child that offers though one does, or names one though none does */
     VULCEDAR_BAD_TEXT = 15,        /* the text of a simulation is not one */
     VULCEDAR_NOTHING_TO_UNDO = 16, /* the journal has no step left to take back */
+    VULCEDAR_BAD_DEPTH = 17,       /* a depth form has a depth that cannot be there: the first is not 1, a later one below 2 or more than one deeper than the line before */
+    VULCEDAR_NOT_RENUMBERED = 18,  /* the plan is not in the fixed numbering; found behind 6 and before 7 */
     VULCEDAR_UNKNOWN_POINT = 19,   /* no point has this name */
     VULCEDAR_NO_FREE_POINT = 20,   /* sixteen other points are in use */
     VULCEDAR_BAD_TABLE = 21,       /* the table of classes is not one; found before the plan's own numbers */
@@ -206,6 +215,26 @@ uint32_t vulcedar_check(const uint8_t *plan, size_t plan_len);
  * plan_len. out is written only on 0. Call it once for such a plan, and use the result at every site.
  */
 uint32_t vulcedar_rewrite(const uint8_t *plan, size_t plan_len, uint8_t *out, size_t out_len);
+
+/*
+ * Writes the same tree in the fixed numbering to out: same kinds, same parents, children in the same order. Two plans become
+ * the same bytes if and only if they are the same tree; a plan in the fixed numbering stays as it is. 1 to 6, then 7 if
+ * out_len is not plan_len. out is written only on 0.
+ */
+uint32_t vulcedar_renumber(const uint8_t *plan, size_t plan_len, uint8_t *out, size_t out_len);
+
+/*
+ * Writes the depth form of a plan to out: each node's kind and depth. 1 to 6; 18 if the plan is not in the fixed numbering
+ * (call vulcedar_renumber first); then 7 if out_len is not plan_len. out is written only on 0.
+ */
+uint32_t vulcedar_to_depths(const uint8_t *plan, size_t plan_len, uint8_t *out, size_t out_len);
+
+/*
+ * Writes the plan of a depth form to out; it is in the fixed numbering, and vulcedar_to_depths gives the form again. 1 and 2
+ * as for a plan; 17 for a first depth other than 1, a later one below 2, or one more than one above that of the line before;
+ * 4 to 6 as for a plan; then 7 if out_len is not depths_len. out is written only on 0.
+ */
+uint32_t vulcedar_from_depths(const uint8_t *depths, size_t depths_len, uint8_t *out, size_t out_len);
 
 /*
  * Checks a plan and tells how deep every node lies, for an editor that shows the tree while it is typed. depths has one
