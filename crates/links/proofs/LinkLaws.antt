@@ -2,12 +2,12 @@
 use mathlib.Core.Path.{_≡_, refl, sym, _∙_, ap}
 use mathlib.Core.Bool.{true, false}
 use mathlib.Core.List.{List, [], _∷_}
-use Prim.Native.Nat.{ℕ, pred, _+_, _-_, _/_, _≤_, _<_}
+use Prim.Native.Nat.{ℕ, zero, suc, pred, _+_, _-_, _/_, _≤_, _<_}
 use native.Mathlib.Omega.{arith}
-use lib.Dec.{eqb}
+use lib.Dec.{eqb, ltb}
 use lib.ListN.{length, getD, set, replicate, length-set, length-replicate, getD-replicate}
 use lib.Seq.{getD-set-same, getD-set-other}
-use borrow.Author.Tests.{eqb-true, eqb-false, ne-eqb}
+use borrow.Author.Tests.{eqb-true, eqb-false, ne-eqb, ltb-true, ltb-false}
 use Rattle.lists.specs.Seq.{upFrom}
 use Rattle.lists.specs.Member.{In, here}
 use Rattle.lists.proofs.Logic.{cases, decided}
@@ -23,17 +23,25 @@ module _ (p : List ℕ) (v : ℕ) where
   unfolding children childrenBelow childrenFrom
   from-all = let e : pred (size p) ≡ size p - 1 = omega arith in rw e
 
-  from-end : childrenFrom p v (size p) ≡ []
+  pub from-end : childrenFrom p v (size p) ≡ []
   unfolding childrenFrom
   from-end = keep-out (λ d. eqb (parent p d) v) (size p) (size p) (omega arith)
 
-  from-yes : (c : ℕ) → c < size p → eqb (parent p c) v ≡ true → childrenFrom p v c ≡ c ∷ childrenFrom p v (c + 1)
+  pub from-yes : (c : ℕ) → c < size p → eqb (parent p c) v ≡ true → childrenFrom p v c ≡ c ∷ childrenFrom p v (c + 1)
   unfolding childrenFrom
   from-yes c l e = keep-yes (λ d. eqb (parent p d) v) c (size p) l e
 
   from-no : (c : ℕ) → c < size p → eqb (parent p c) v ≡ false → childrenFrom p v c ≡ childrenFrom p v (c + 1)
   unfolding childrenFrom
   from-no c l e = keep-no (λ d. eqb (parent p d) v) c (size p) l e
+
+  -- none of the nodes from a up to b is a child
+  pub from-skip : (f a b : ℕ) → b ≤ f + a → a ≤ b → b ≤ size p → ((c : ℕ) → a ≤ c → c < b → parent p c ≡ v → ⊥) → childrenFrom p v a ≡ childrenFrom p v b
+  from-skip zero a b i l m h = let e : a ≡ b = omega arith in rw e
+  from-skip (suc f) a b i l m h = cases (decided (ltb a b))
+      (λ z. let lt = ltb-true a b z in
+      from-no a (omega arith) (ne-eqb (parent p a) v (h a (omega arith) lt)) ∙ from-skip f (a + 1) b (omega arith) (omega arith) m (λ c j k. h c (omega arith) k))
+      (λ z. let ge = ltb-false a b z in let e : a ≡ b = omega arith in rw e)
 
   pub led-none : (c : ℕ) → c ≡ 0 → ledTo p v c ≡ []
   unfolding ledTo

@@ -9,10 +9,10 @@ use native.Mathlib.Omega.{arith}
 use Rattle.lists.specs.Member.{In}
 use Rattle.lists.proofs.Logic.{cases, decided}
 use Rattle.plan.specs.Plan.{size, parent, children}
-use Rattle.plan.specs.Check.{Accepted}
+use Rattle.plan.specs.Check.{Ordered, Accepted}
 use Rattle.plan.specs.Under.{Under, self, up, Below}
 use Rattle.plan.proofs.PlanLaws.{child-of, child-in}
-use Rattle.plan.proofs.AcceptedLaws.{child-between}
+use Rattle.plan.proofs.AcceptedLaws.{accepted-ordered, child-between}
 
 pub under-trans : (p : List ℕ) (u v w : ℕ) → Under p u v → Under p v w → Under p u w
 under-trans p u v w h (self e) = subst (Under p u) e h
@@ -28,7 +28,7 @@ pub under-child : (p : List ℕ) (v c w : ℕ) → In c (children p v) → Under
 under-child p v c w i h = under-trans p v c w (child-under p v c i) h
 
 -- of two nodes above one node, one is above the other
-linear : (p : List ℕ) (c d w : ℕ) → Under p c w → Under p d w → Under p c d ⊎ Under p d c
+pub linear : (p : List ℕ) (c d w : ℕ) → Under p c w → Under p d w → Under p c d ⊎ Under p d c
 linear p c d w (self e) h = inr (subst (Under p d) (sym e) h)
 linear p c d w (up z b) (self e) = inl (subst (Under p c) (sym e) (up z b))
 linear p c d w (up z b) (up y h) = linear p c d (parent p w) b h
@@ -38,17 +38,17 @@ pub under-below : (p : List ℕ) (v w : ℕ) → (v ≡ w → ⊥) → Under p v
 under-below p v w ne (self e) = absurd (ne e)
 under-below p v w ne (up l b) = (l, b)
 
-module _ (p : List ℕ) (ok : Accepted p) where
-  pub under-low : (v w : ℕ) → w < size p → Under p v w → v ≤ w
-  under-low v w l (self e) = omega arith
-  under-low v w l (up z b) = let lt = ok .below w z l in let r = under-low v (parent p w) (omega arith) b in omega arith
+pub under-low : (p : List ℕ) → Ordered p → (v w : ℕ) → w < size p → Under p v w → v ≤ w
+under-low p ordered v w l (self e) = omega arith
+under-low p ordered v w l (up z b) = let lt = ordered .below w z l in let r = under-low p ordered v (parent p w) (omega arith) b in omega arith
 
+module _ (p : List ℕ) (ok : Accepted p) where
   beside : (v c d : ℕ) → In c (children p v) → In d (children p v) → Under p c d → c ≡ d
   beside v c d i j (self e) = e
   beside v c d i j (up z b) =
       let q = child-of p v j .of in
       let r = child-between p ok v i in
-      let low = under-low c (parent p d) (omega arith) b in
+      let low = under-low p (accepted-ordered p ok) c (parent p d) (omega arith) b in
       absurd (omega arith)
 
   pub apart : (v c d : ℕ) → In c (children p v) → In d (children p v) → (c ≡ d → ⊥) → (w : ℕ) → Under p c w → Under p d w → ⊥
@@ -59,7 +59,7 @@ module _ (p : List ℕ) (ok : Accepted p) where
   through v w l h = step v w l (up (h .0) (h .1)) (λ e. low (h .0) (h .1) e)
     where
       low : 0 < w → Under p v (parent p w) → v ≡ w → ⊥
-      low z b e = let lt = ok .below w z l in let r = under-low v (parent p w) (omega arith) b in omega arith
+      low z b e = let lt = ok .below w z l in let r = under-low p (accepted-ordered p ok) v (parent p w) (omega arith) b in omega arith
 
       step : (v w : ℕ) → w < size p → Under p v w → (v ≡ w → ⊥) → (d : ℕ) × In d (children p v) × Under p d w
       step v w l (self e) ne = absurd (ne e)
