@@ -1,5 +1,5 @@
-// The check of a plan, as code. What it answers and accepts is specs/Check.antt of the crate plan, its second form specs/Depths.antt. No public
-// function has a `requires`; both forms of the check are linear in the nodes.
+// The check of a plan, as code. What it answers and accepts is specs/Check.antt of the crate plan, its second form specs/Depths.antt. Both forms
+// are linear in the nodes. The two reads at a node ask that there is such a node; no other public function has a `requires`.
 ghost use mathlib.Core.Path.{_≡_};
 ghost use Prim.Native.Nat.{_<_};
 ghost use lib.ListN.{length, replicate};
@@ -8,21 +8,22 @@ ghost use Rattle.plan.specs.Plan.{kindOf, size, kindByte, parent, childCount, d
 ghost use Rattle.plan.specs.Check.{lengthOk, kindOk, parentOk, underBlock, fits, countOk, depthOk, atAll, checkNumber, fitNumber, Ordered};
 ghost use Rattle.checker.specs.Depths.{checked, depthsFront, depthsOf};
 
-fn kind_at(plan: &[u8], v: usize) -> u8
+pub fn kind_at(plan: &[u8], v: usize) -> u8
     requires { ⌜ v < size (now plan) ⌝ }
     ensures { λ r. ⌜ r ≡ kindByte (now (plan .entry)) v ⌝ }
 {
     plan[2 * v]
 }
 
-fn parent_at(plan: &[u8], v: usize) -> usize
+pub fn parent_at(plan: &[u8], v: usize) -> usize
     requires { ⌜ v < size (now plan) ⌝ }
     ensures { λ r. ⌜ r ≡ parent (now (plan .entry)) v ⌝ }
 {
     plan::wide(plan[2 * v + 1])
 }
 
-fn length_ok(plan: &[u8]) -> bool
+// Test 1 alone.
+pub fn length_ok(plan: &[u8]) -> bool
     ensures { λ r. ⌜ r ≡ lengthOk (now (plan .entry)) ⌝ }
 {
     let n = plan.len();
@@ -40,8 +41,8 @@ fn kind_ok(plan: &[u8], v: usize) -> bool
     1 <= k && k <= 8
 }
 
-// Here and below a loop runs on behind a failed test: that is faster where none fails.
-fn kinds_ok(plan: &[u8]) -> bool
+// Test 2 alone. Here and below a loop runs on behind a failed test: that is faster where none fails.
+pub fn kinds_ok(plan: &[u8]) -> bool
     ensures { λ r. ⌜ r ≡ atAll kindOk (now (plan .entry)) ⌝ }
 {
     let n = plan::node_count(plan);
