@@ -4,3 +4,4 @@ pub mod LineLaws
 pub mod DepthsLaws
 pub mod FormLaws
 pub mod PlaceLaws
+pub mod CallLaws

@@ -1,238 +1,121 @@
-use Prim.Native.Nat.{ℕ, _<_}
+-- What is left of the children says where the tree ends; the call of itself is on a higher node. Assumes nothing.
+use mathlib.Core.Path.{_≡_, _∙_, ap}
+use Prim.Native.Nat.{ℕ, _-_, _<_}
+use native.Mathlib.Omega.{arith}
+use lib.ListN.{length}
+use Rattle.plan.specs.Plan.{size}
+use Rattle.links.specs.Links.{ledTo}
+use Rattle.convert.proofs.LineLaws.{withLine}
+use Rattle.convert.proofs.PlaceLaws.{place-small, place-node, place-room, Walking, walk-first, Turn, walk-long, walk-end, walk-within, walk-ready, walk-falls, walk-less, walk-turn}
 use borrow.Fn.Kinds.{In}
 use borrow.Fn.PlainCycle.{Measures, is, falls, and}
 use Rattle.convert.proofs.place.Reads as place
-use Rattle.convert.proofs.place.Kinds as place-kinds
-use Rattle.convert.proofs.+place.Lts-place as place-lts
+use Rattle.convert.proofs.place.Kinds as kinds
+use Rattle.convert.proofs.+place.Lts-place as lts
 use Rattle.checker.proofs.kind_at.Reads as kind-at-reads
 use Rattle.convert.proofs.set_line.Reads as set-line-reads
 use Rattle.plan.proofs.wide.Reads as wide-reads
 use Rattle.convert.proofs.+place.{statement}
 use Rattle.convert.proofs.+place.Tie.{close}
 
-abbrev μ-place : Measures 4 place-kinds.ps ℕ
-μ-place κs a = ?
+abbrev below-node : Measures 4 kinds.ps ℕ
+below-node κs a = size (a .0 .now) - a .1 .1 .1 .1 .0
 
-abbrev place-at : ℕ → In 4 place-kinds.ps
-place-at t = and 4 place-kinds.ps (is 4 place-kinds.ps μ-place t) place.Pre
+abbrev here : ℕ → In 4 kinds.ps
+here t = and 4 kinds.ps (is 4 kinds.ps below-node t) place.Pre
 
-abbrev place-below : ℕ → In 4 place-kinds.ps
-place-below t = and 4 place-kinds.ps (falls 4 place-kinds.ps _<_ μ-place t) place.Pre
+abbrev below : ℕ → In 4 kinds.ps
+below t = and 4 kinds.ps (falls 4 kinds.ps _<_ below-node t) place.Pre
 
-abbrev place-Inv-loop : place-lts.InvT-loop
-place-Inv-loop plan first next out₀ v u n w₀ c₀ out w c = ?
-
-abbrev place-μ-loop : place-lts.MeasureT-loop
-place-μ-loop plan first next out₀ v u n w₀ c₀ out w c = ?
-
--- src/lib.rt:66:22
-place-kind-at-requires : (t : ℕ) → place-lts.Need-kind-at-requires (
+abbrev callees : ℕ → lts.Claims
+callees t = (
   kind-at-reads.Asked,
   kind-at-reads.Learnt,
   set-line-reads.Asked,
   set-line-reads.Learnt,
   wide-reads.Asked,
   wide-reads.Learnt,
-  place-below t,
-  place.Post,
-) (place-at t) place.Post place-Inv-loop place-μ-loop
-place-kind-at-requires t c κs = ?
-
--- src/lib.rt:66:5
-place-set-line-requires : (t : ℕ) → place-lts.Need-set-line-requires (
-  kind-at-reads.Asked,
-  kind-at-reads.Learnt,
-  set-line-reads.Asked,
-  set-line-reads.Learnt,
-  wide-reads.Asked,
-  wide-reads.Learnt,
-  place-below t,
-  place.Post,
-) (place-at t) place.Post place-Inv-loop place-μ-loop
-place-set-line-requires t c κs = ?
-
--- src/lib.rt:67:17
-place-add-w : (t : ℕ) → place-lts.Need-add-w (
-  kind-at-reads.Asked,
-  kind-at-reads.Learnt,
-  set-line-reads.Asked,
-  set-line-reads.Learnt,
-  wide-reads.Asked,
-  wide-reads.Learnt,
-  place-below t,
-  place.Post,
-) (place-at t) place.Post place-Inv-loop place-μ-loop
-place-add-w t c = ?
-
--- src/lib.rt:68:28
-place-element-copy-out-wide : (t : ℕ) → place-lts.Need-element-copy-out-wide (
-  kind-at-reads.Asked,
-  kind-at-reads.Learnt,
-  set-line-reads.Asked,
-  set-line-reads.Learnt,
-  wide-reads.Asked,
-  wide-reads.Learnt,
-  place-below t,
-  place.Post,
-) (place-at t) place.Post place-Inv-loop place-μ-loop
-place-element-copy-out-wide t c = ?
-
--- src/lib.rt:68:9
-place-wide-requires : (t : ℕ) → place-lts.Need-wide-requires (
-  kind-at-reads.Asked,
-  kind-at-reads.Learnt,
-  set-line-reads.Asked,
-  set-line-reads.Learnt,
-  wide-reads.Asked,
-  wide-reads.Learnt,
-  place-below t,
-  place.Post,
-) (place-at t) place.Post place-Inv-loop place-μ-loop
-place-wide-requires t c κs = ?
-
--- src/lib.rt:69:5
-place-loop-holds : (t : ℕ) → place-lts.Need-loop-holds (
-  kind-at-reads.Asked,
-  kind-at-reads.Learnt,
-  set-line-reads.Asked,
-  set-line-reads.Learnt,
-  wide-reads.Asked,
-  wide-reads.Learnt,
-  place-below t,
-  place.Post,
-) (place-at t) place.Post place-Inv-loop place-μ-loop
-place-loop-holds t c = ?
-
--- src/lib.rt:70:46
-place-cast-place : (t : ℕ) → place-lts.Need-cast-place (
-  kind-at-reads.Asked,
-  kind-at-reads.Learnt,
-  set-line-reads.Asked,
-  set-line-reads.Learnt,
-  wide-reads.Asked,
-  wide-reads.Learnt,
-  place-below t,
-  place.Post,
-) (place-at t) place.Post place-Inv-loop place-μ-loop
-place-cast-place t c = ?
-
--- src/lib.rt:70:9
-place-place-requires : (t : ℕ) → place-lts.Need-place-requires (
-  kind-at-reads.Asked,
-  kind-at-reads.Learnt,
-  set-line-reads.Asked,
-  set-line-reads.Learnt,
-  wide-reads.Asked,
-  wide-reads.Learnt,
-  place-below t,
-  place.Post,
-) (place-at t) place.Post place-Inv-loop place-μ-loop
-place-place-requires t c κs = ?
-
--- src/lib.rt:71:24
-place-element-copy-out-wide-2 : (t : ℕ) → place-lts.Need-element-copy-out-wide-2 (
-  kind-at-reads.Asked,
-  kind-at-reads.Learnt,
-  set-line-reads.Asked,
-  set-line-reads.Learnt,
-  wide-reads.Asked,
-  wide-reads.Learnt,
-  place-below t,
-  place.Post,
-) (place-at t) place.Post place-Inv-loop place-μ-loop
-place-element-copy-out-wide-2 t c = ?
-
--- src/lib.rt:71:9
-place-wide-requires-2 : (t : ℕ) → place-lts.Need-wide-requires-2 (
-  kind-at-reads.Asked,
-  kind-at-reads.Learnt,
-  set-line-reads.Asked,
-  set-line-reads.Learnt,
-  wide-reads.Asked,
-  wide-reads.Learnt,
-  place-below t,
-  place.Post,
-) (place-at t) place.Post place-Inv-loop place-μ-loop
-place-wide-requires-2 t c κs = ?
-
--- src/lib.rt:69:5
-place-loop-less : (t : ℕ) → place-lts.Need-loop-less (
-  kind-at-reads.Asked,
-  kind-at-reads.Learnt,
-  set-line-reads.Asked,
-  set-line-reads.Learnt,
-  wide-reads.Asked,
-  wide-reads.Learnt,
-  place-below t,
-  place.Post,
-) (place-at t) place.Post place-Inv-loop place-μ-loop
-place-loop-less t c = ?
-
--- src/lib.rt:69:5
-place-loop-again : (t : ℕ) → place-lts.Need-loop-again (
-  kind-at-reads.Asked,
-  kind-at-reads.Learnt,
-  set-line-reads.Asked,
-  set-line-reads.Learnt,
-  wide-reads.Asked,
-  wide-reads.Learnt,
-  place-below t,
-  place.Post,
-) (place-at t) place.Post place-Inv-loop place-μ-loop
-place-loop-again t c = ?
-
--- src/lib.rt:54:1
-place-same-length : (t : ℕ) → place-lts.Need-same-length (
-  kind-at-reads.Asked,
-  kind-at-reads.Learnt,
-  set-line-reads.Asked,
-  set-line-reads.Learnt,
-  wide-reads.Asked,
-  wide-reads.Learnt,
-  place-below t,
-  place.Post,
-) (place-at t) place.Post place-Inv-loop place-μ-loop
-place-same-length t c = ?
-
--- src/lib.rt:54:1
-place-returns : (t : ℕ) → place-lts.Need-returns (
-  kind-at-reads.Asked,
-  kind-at-reads.Learnt,
-  set-line-reads.Asked,
-  set-line-reads.Learnt,
-  wide-reads.Asked,
-  wide-reads.Learnt,
-  place-below t,
-  place.Post,
-) (place-at t) place.Post place-Inv-loop place-μ-loop
-place-returns t c = ?
-
-pub +place-spec : {M : Type 1} → statement M
-+place-spec = close μ-place λ t. place-lts.spec (
-  kind-at-reads.Asked,
-  kind-at-reads.Learnt,
-  set-line-reads.Asked,
-  set-line-reads.Learnt,
-  wide-reads.Asked,
-  wide-reads.Learnt,
-  place-below t,
+  below t,
   place.Post,
 )
-    (place-at t)
+
+below-at : {x y t : ℕ} → y ≡ t → x < y → x < t
+below-at e h = omega arith
+
+abbrev Inv : lts.InvT-loop
+Inv plan first next out₀ v u n w₀ c₀ out w c = Walking plan out₀ v n out w c
+
+abbrev μ : lts.MeasureT-loop
+μ plan first next out₀ v u n w₀ c₀ out w c = length (ledTo plan v c)
+
+kind-at-requires : (t : ℕ) → lts.Need-kind-at-requires (callees t) (here t) place.Post Inv μ
+kind-at-requires t c κs = c .before .before .before .pre .1 .node
+
+set-line-requires : (t : ℕ) → lts.Need-set-line-requires (callees t) (here t) place.Post Inv μ
+set-line-requires t c κs = place-room (c .before .before .before .before .pre .1)
+
+add-w : (t : ℕ) → lts.Need-add-w (callees t) (here t) place.Post Inv μ
+add-w t c = omega (arith, place-small (c .before .before .before .before .before .before .before .pre .1))
+
+element-copy-out-wide : (t : ℕ) → lts.Need-element-copy-out-wide (callees t) (here t) place.Post Inv μ
+element-copy-out-wide t c = place-node (c .before .before .before .before .before .before .before .pre .1)
+
+wide-requires : (t : ℕ) → lts.Need-wide-requires (callees t) (here t) place.Post Inv μ
+wide-requires t c κs = tt
+
+loop-holds : (t : ℕ) → lts.Need-loop-holds (callees t) (here t) place.Post Inv μ
+loop-holds t c = walk-first (c .before .before .before .before .before .before .before .before .before .pre .1) _ _ _ (omega arith) (c .wide .ensures)
+
+-- the loop, anywhere
+turn : (t : ℕ) (c : lts.At-loop (callees t) (here t) place.Post Inv μ) →
+    Turn (c .before .before .before .before .before .before .before .before .before .before .args .plan .now) (c .before .before .before .before .before .before .before .before .before .before .args .first .now) (c .before .before .before .before .before .before .before .before .before .before .args .next .now) (c .before .before .before .before .before .before .before .before .before .before .args .out .now) (c .before .before .before .before .before .set-line .last .0) (c .before .before .before .before .before .before .before .before .before .before .args .v) (c .before .before .before .before .before .before .before .before .before .before .args .u) (c .before .before .before .before .before .before .before .before .before .before .args .n) (c .loop .out) (c .loop .w) (c .loop .c)
+turn t c = record {
+  ready = c .before .before .before .before .before .before .before .before .before .before .pre .1;
+  begun = c .before .before .before .before .before .set-line .ensures ∙ ap (λ k. withLine (c .before .before .before .before .before .before .before .before .before .before .args .out .now) (c .before .before .before .before .before .before .before .before .before .before .args .n) k (c .before .before .before .before .before .before .before .before .before .before .args .u)) (c .before .before .before .before .before .before .kind-at .ensures);
+  walk = c .loop .inv;
+}
+
+cast-place : (t : ℕ) → lts.Need-cast-place (callees t) (here t) place.Post Inv μ
+cast-place t c = omega (arith, place-small (c .before .before .before .before .before .before .before .before .before .before .before .before .pre .1))
+
+place-requires : (t : ℕ) → lts.Need-place-requires (callees t) (here t) place.Post Inv μ
+place-requires t c κs = (below-at (c .before .before .before .before .before .before .before .before .before .before .before .before .pre .0) (walk-falls (turn t (c .before .before)) (c .before .loop-test .taken)), walk-ready (turn t (c .before .before)) (c .before .loop-test .taken))
+
+element-copy-out-wide-2 : (t : ℕ) → lts.Need-element-copy-out-wide-2 (callees t) (here t) place.Post Inv μ
+element-copy-out-wide-2 t c = walk-within (turn t (c .before .before .before .before .before)) (c .before .before .before .before .loop-test .taken)
+
+wide-requires-2 : (t : ℕ) → lts.Need-wide-requires-2 (callees t) (here t) place.Post Inv μ
+wide-requires-2 t c κs = tt
+
+loop-less : (t : ℕ) → lts.Need-loop-less (callees t) (here t) place.Post Inv μ
+loop-less t c = rw (c .wide2 .ensures) (walk-less (turn t (c .before .before .before .before .before .before .before)) (c .before .before .before .before .before .before .loop-test .taken))
+
+loop-again : (t : ℕ) → lts.Need-loop-again (callees t) (here t) place.Post Inv μ
+loop-again t c = rw (c .wide2 .ensures) (walk-turn (turn t (c .before .before .before .before .before .before .before)) (c .before .before .before .before .before .before .loop-test .taken) _ _ (c .before .before .before .before .place .ensures))
+
+same-length : (t : ℕ) → lts.Need-same-length (callees t) (here t) place.Post Inv μ
+same-length t c = walk-long (turn t (c .before))
+
+returns : (t : ℕ) → lts.Need-returns (callees t) (here t) place.Post Inv μ
+returns t c = walk-end (turn t (c .before)) (c .loop-test .left)
+
+pub +place-spec : {M : Type 1} → statement M
++place-spec = close below-node λ t. lts.spec (callees t)
+    (here t)
     place.Post
-    place-Inv-loop
-    place-μ-loop
-    (place-kind-at-requires t)
-    (place-set-line-requires t)
-    (place-add-w t)
-    (place-element-copy-out-wide t)
-    (place-wide-requires t)
-    (place-loop-holds t)
-    (place-cast-place t)
-    (place-place-requires t)
-    (place-element-copy-out-wide-2 t)
-    (place-wide-requires-2 t)
-    (place-loop-less t)
-    (place-loop-again t)
-    (place-same-length t)
-    (place-returns t)
+    Inv
+    μ
+    (kind-at-requires t)
+    (set-line-requires t)
+    (add-w t)
+    (element-copy-out-wide t)
+    (wide-requires t)
+    (loop-holds t)
+    (cast-place t)
+    (place-requires t)
+    (element-copy-out-wide-2 t)
+    (wide-requires-2 t)
+    (loop-less t)
+    (loop-again t)
+    (same-length t)
+    (returns t)

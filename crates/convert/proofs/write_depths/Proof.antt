@@ -38,10 +38,10 @@ turn : (c : tie.After-parent-at Inv-loop μ-loop) → DeepTurn (c .before .befor
 turn c = record { accepted = c .before .before .before .before .before .before .before .before .before .before .before .pre .0; so-far = c .before .before .loop .inv; within = within (c .before); above = c .parent-at .ensures }
 
 mul-d : tie.Need-mul-d Inv-loop μ-loop
-mul-d c = omega (arith, deep-low (turn (c .before)))
+mul-d c = omega (arith, deep-low (turn c))
 
 add-d : tie.Need-add-d Inv-loop μ-loop
-add-d c = omega (arith, deep-low (turn (c .before)))
+add-d c = omega (arith, deep-low (turn c))
 
 slice-read-d : tie.Need-slice-read-d Inv-loop μ-loop
 slice-read-d c = deep-read (turn (c .before))
