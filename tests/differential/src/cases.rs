@@ -33,10 +33,10 @@ pub fn run<S: Implementation, R: Implementation>(trial: &mut Trial<S, R>) {
     way::run(trial);
 }
 
-/// Version 1.5.0.
+/// Version 1.6.0.
 fn version<S: Implementation, R: Implementation>(trial: &mut Trial<S, R>) {
     let version = trial.version();
-    trial.tally.compare(version == 0x01_0500, || format!("the version is {version:08x}"));
+    trial.tally.compare(version == 0x01_0600, || format!("the version is {version:08x}"));
 }
 
 /// A guard: the event, its rule, and what must be written.
