@@ -8,6 +8,7 @@ use crate::tables::COMMON;
 use crate::trial::{Trial, hex};
 
 mod desks;
+mod forms;
 mod impact;
 mod points;
 mod way;
@@ -31,6 +32,7 @@ pub fn run<S: Implementation, R: Implementation>(trial: &mut Trial<S, R>) {
     desks::run(trial);
     impact::run(trial);
     way::run(trial);
+    forms::run(trial);
 }
 
 /// Version 1.6.0.
