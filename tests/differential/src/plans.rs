@@ -120,7 +120,13 @@ pub fn has_tree(plan: &[u8]) -> bool {
 /// The same tree in any numbering: parents before children, and these in their
 /// order.
 pub fn any_numbering(random: &mut Random, plan: &[u8]) -> Vec<u8> {
-    number_anyhow(random, &Tree::new(plan))
+    let growth = any_growth(random);
+    number(random, &Tree::new(plan), growth)
+}
+
+/// The same in no order at all.
+pub fn mixed_numbering(random: &mut Random, plan: &[u8]) -> Vec<u8> {
+    number(random, &Tree::new(plan), Growth::Anywhere)
 }
 
 /// The same nodes below the same parents, the children of each in any order, and
@@ -128,13 +134,17 @@ pub fn any_numbering(random: &mut Random, plan: &[u8]) -> Vec<u8> {
 pub fn any_order(random: &mut Random, plan: &[u8]) -> Vec<u8> {
     let mut tree = Tree::new(plan);
     tree.children.iter_mut().for_each(|children| shuffle(random, children));
-    number_anyhow(random, &tree)
+    let growth = any_growth(random);
+    number(random, &tree, growth)
+}
+
+fn any_growth(random: &mut Random) -> Growth {
+    random.one_of(&[Growth::Anywhere, Growth::Deep, Growth::Deep, Growth::Wide])
 }
 
 /// Gives the numbers one after another to the next child of some node that has
 /// one: of any, mostly of the latest, or mostly of the earliest.
-fn number_anyhow(random: &mut Random, tree: &Tree) -> Vec<u8> {
-    let growth = random.one_of(&[Growth::Anywhere, Growth::Deep, Growth::Deep, Growth::Wide]);
+fn number(random: &mut Random, tree: &Tree, growth: Growth) -> Vec<u8> {
     let mut plan = vec![tree.kind(0), NO_PARENT];
     let mut open = vec![(0, tree.children[0].as_slice())];
     open.retain(|(_, left)| !left.is_empty());
