@@ -1,7 +1,8 @@
 /*
  * What include/vulcedar.h and docs/GUIDE.md say about calling, tried: null pointers with length 0, where a result has a
  * site, the rule beside a guard, the common table, the version, a journal and its points, plans with desks, one answer of a
- * pass changed, the way to each target of a plan, and what a false message does. Compiled as C and as C++.
+ * pass changed, the way to each target of a plan, one tree in each of its numberings, depth forms, and what a false message
+ * does. Compiled as C and as C++.
  */
 #include <inttypes.h>
 #include <stdio.h>
@@ -18,6 +19,7 @@ LAYOUT(points, sizeof(vulcedar_points) == 256 && offsetof(vulcedar_points, names
 LAYOUT(limits, VULCEDAR_POINTS_MOST == 16 && VULCEDAR_NAME_LENGTH == 8 && VULCEDAR_UNKNOWN_POINT == 19 && VULCEDAR_NO_FREE_POINT == 20);
 LAYOUT(marks, VULCEDAR_BAD_MARKS == 28 && VULCEDAR_BAD_ANSWER == 13 && VULCEDAR_BAD_PICK == 14);
 LAYOUT(targets, VULCEDAR_BAD_TARGET == 29 && VULCEDAR_NO_WAY == 30);
+LAYOUT(forms, VULCEDAR_BAD_DEPTH == 17 && VULCEDAR_NOT_RENUMBERED == 18);
 LAYOUT(desks, VULCEDAR_DESK_HIGHEST == 0x9f && VULCEDAR_BAD_DESK == 22 && VULCEDAR_DESK_HIGHEST + 1 == VULCEDAR_NODES_MOST);
 
 static int wrong;
@@ -38,6 +40,7 @@ static uint32_t result(uint32_t number, uint32_t middle, uint32_t value) { retur
 static void nulls(void)
 {
     static const uint8_t plan[] = { VULCEDAR_TASK, VULCEDAR_NO_PARENT };
+    static const uint8_t form[] = { VULCEDAR_TASK, 1 };
     static const uint8_t table[] = VULCEDAR_COMMON_TABLE;
     static const uint8_t text[] = { '0', '1', 'f', 'f', '\n', '-', '-', '\n' };
     static const uint8_t name[VULCEDAR_NAME_LENGTH] = { 0 };
@@ -46,6 +49,9 @@ static void nulls(void)
     size_t count = 0;
     expect("check of nothing", vulcedar_check(NULL, 0), VULCEDAR_BAD_LENGTH);
     expect("rewrite of nothing", vulcedar_rewrite(NULL, 0, NULL, 0), VULCEDAR_BAD_LENGTH);
+    expect("renumbering of nothing", vulcedar_renumber(NULL, 0, NULL, 0), VULCEDAR_BAD_LENGTH);
+    expect("depth form of nothing", vulcedar_to_depths(NULL, 0, NULL, 0), VULCEDAR_BAD_LENGTH);
+    expect("plan of no depth form", vulcedar_from_depths(NULL, 0, NULL, 0), VULCEDAR_BAD_LENGTH);
     expect("depths of nothing", vulcedar_check_depths(NULL, 0, NULL, 0), VULCEDAR_BAD_LENGTH);
     expect("guard of nothing", vulcedar_guard(NULL, 0, VULCEDAR_START, 0, NULL, 0), VULCEDAR_BAD_LENGTH);
     expect("rule of nothing", vulcedar_rule(NULL, 0, VULCEDAR_START, 0), VULCEDAR_BAD_LENGTH);
@@ -71,6 +77,9 @@ static void nulls(void)
     expect("rehearsal of nothing", vulcedar_rehearse(NULL, 0, NULL, 0), VULCEDAR_BAD_TEXT);
     expect("rehearsal into nothing", vulcedar_rehearse(text, sizeof text, NULL, 0), VULCEDAR_BAD_BUFFER);
     expect("rewrite into nothing", vulcedar_rewrite(plan, sizeof plan, NULL, 0), VULCEDAR_BAD_BUFFER);
+    expect("renumbering into nothing", vulcedar_renumber(plan, sizeof plan, NULL, 0), VULCEDAR_BAD_BUFFER);
+    expect("depth form into nothing", vulcedar_to_depths(plan, sizeof plan, NULL, 0), VULCEDAR_BAD_BUFFER);
+    expect("plan of a depth form into nothing", vulcedar_from_depths(form, sizeof form, NULL, 0), VULCEDAR_BAD_BUFFER);
     expect("depths into nothing", vulcedar_check_depths(plan, sizeof plan, NULL, 0), VULCEDAR_BAD_BUFFER);
     expect("guard into nothing", vulcedar_guard(plan, sizeof plan, VULCEDAR_START, 0, NULL, 0), VULCEDAR_BAD_BUFFER);
     expect("step on nothing", vulcedar_step(plan, sizeof plan, VULCEDAR_START, 0, NULL, 0), VULCEDAR_BAD_BUFFER);
@@ -671,6 +680,128 @@ static void no_targets(void)
     expect("no way", look(0, VULCEDAR_TURNED_DOWN, VULCEDAR_COMMITTED, answers), VULCEDAR_NO_WAY);
 }
 
+/* A call that writes one form of a plan from another. */
+typedef uint32_t (*conversion)(const uint8_t *, size_t, uint8_t *, size_t);
+
+/* Such a call into out_len bytes, which are left where it is refused; nothing is written behind them. */
+static uint32_t convert(conversion call, const uint8_t *from, size_t from_len, uint8_t *out, size_t out_len)
+{
+    uint8_t room[VULCEDAR_NODES_MOST * 2 + 16], left[sizeof room];
+    memset(left, 99, sizeof left);
+    memset(room, 99, sizeof room);
+    uint32_t r = call(from, from_len, room, out_len);
+    expect("bytes behind are left", memcmp(room + out_len, left, sizeof room - out_len) == 0, 1);
+    if (r != VULCEDAR_PASSED) expect("refused bytes are left", memcmp(room, left, out_len) == 0, 1);
+    else memcpy(out, room, out_len);
+    return r;
+}
+
+/* A serial of an and with two tasks, an or with one, and a task: every order of the six nodes below the root in which parents
+   and earlier siblings stand first is a plan of this tree, and becomes the same bytes. */
+static const uint8_t renumbered[] = {
+    VULCEDAR_SERIAL, VULCEDAR_NO_PARENT, VULCEDAR_AND, 0, VULCEDAR_TASK, 1, VULCEDAR_TASK, 1, VULCEDAR_OR, 0, VULCEDAR_TASK, 4, VULCEDAR_TASK, 0,
+};
+static const uint8_t listed[] = {
+    VULCEDAR_SERIAL, 1, VULCEDAR_AND, 2, VULCEDAR_TASK, 3, VULCEDAR_TASK, 3, VULCEDAR_OR, 2, VULCEDAR_TASK, 3, VULCEDAR_TASK, 2,
+};
+enum { LISTED = sizeof listed / 2 };
+
+/* Takes a node into a plan once its parent and the sibling before it are there; answers how many plans come of it. */
+static unsigned numberings(uint8_t plan[2 * LISTED], uint8_t number[LISTED], size_t taken)
+{
+    static const size_t before[LISTED] = { 0, 0, 1, 2, 1, 4, 4 }; /* the sibling before, else the parent */
+    unsigned found = 0;
+    uint8_t out[2 * LISTED], depths[LISTED];
+    if (taken == LISTED) {
+        int fixed = memcmp(plan, renumbered, sizeof renumbered) == 0;
+        expect("a numbering", vulcedar_check_depths(plan, sizeof renumbered, depths, LISTED), VULCEDAR_PASSED);
+        expect("its renumbering", convert(vulcedar_renumber, plan, sizeof renumbered, out, sizeof renumbered), VULCEDAR_PASSED);
+        expect("the renumbered plan", memcmp(out, renumbered, sizeof renumbered) == 0, 1);
+        expect("its depth form", convert(vulcedar_to_depths, plan, sizeof renumbered, out, sizeof renumbered), fixed ? VULCEDAR_PASSED : VULCEDAR_NOT_RENUMBERED);
+        for (size_t v = 0; fixed && v < LISTED; v++) expect("a depth", out[2 * v + 1], depths[v]);
+        return 1;
+    }
+    for (size_t v = 1; v < LISTED; v++) {
+        if (number[v] != 0 || (before[v] != 0 && number[before[v]] == 0)) continue;
+        number[v] = byte_of(taken);
+        plan[2 * taken] = renumbered[2 * v];
+        plan[2 * taken + 1] = number[renumbered[2 * v + 1]];
+        found += numberings(plan, number, taken + 1);
+        number[v] = 0;
+    }
+    return found;
+}
+
+/* One tree in each of its numberings; its depth form, there and back. */
+static void forms(void)
+{
+    uint8_t plan[2 * LISTED] = { VULCEDAR_SERIAL, VULCEDAR_NO_PARENT }, number[LISTED] = { 0 }, out[2 * LISTED];
+    expect("all numberings", numberings(plan, number, 1), 20);
+    expect("the depth form", convert(vulcedar_to_depths, renumbered, sizeof renumbered, out, sizeof out), VULCEDAR_PASSED);
+    expect("its lines", memcmp(out, listed, sizeof listed) == 0, 1);
+    expect("the plan of it", convert(vulcedar_from_depths, listed, sizeof listed, out, sizeof out), VULCEDAR_PASSED);
+    expect("is the same", memcmp(out, renumbered, sizeof renumbered) == 0, 1);
+}
+
+/* Every length of what is lent, of a plan and of a depth form; then the numbers, each before the next. */
+static void refused_forms(void)
+{
+    static const struct { uint32_t number; size_t len; uint8_t bytes[10]; } plans[] = { /* none in the fixed numbering */
+        { VULCEDAR_BAD_KIND, 10, { VULCEDAR_SERIAL, VULCEDAR_NO_PARENT, VULCEDAR_AND, 0, VULCEDAR_OR, 0, VULCEDAR_TASK, 2, 0, 1 } },
+        { VULCEDAR_BAD_PARENT, 10, { VULCEDAR_SERIAL, VULCEDAR_NO_PARENT, VULCEDAR_AND, 0, VULCEDAR_OR, 0, VULCEDAR_TASK, 2, VULCEDAR_TASK, 4 } },
+        { VULCEDAR_TASK_PARENT, 10, { VULCEDAR_SERIAL, VULCEDAR_NO_PARENT, VULCEDAR_TASK, 0, VULCEDAR_OR, 0, VULCEDAR_TASK, 2, VULCEDAR_TASK, 1 } },
+        { VULCEDAR_BAD_CHILDREN, 10, { VULCEDAR_SERIAL, VULCEDAR_NO_PARENT, VULCEDAR_CONDITIONAL, 0, VULCEDAR_OR, 0, VULCEDAR_TASK, 2, VULCEDAR_TASK, 1 } },
+        { VULCEDAR_NOT_RENUMBERED, 10, { VULCEDAR_SERIAL, VULCEDAR_NO_PARENT, VULCEDAR_AND, 0, VULCEDAR_OR, 0, VULCEDAR_TASK, 2, VULCEDAR_TASK, 1 } },
+    }, lists[] = {
+        { VULCEDAR_BAD_KIND, 6, { VULCEDAR_SERIAL, 0, VULCEDAR_TASK, 2, 9, 1 } },
+        { VULCEDAR_BAD_DEPTH, 4, { VULCEDAR_SERIAL, 0, VULCEDAR_TASK, 2 } },
+        { VULCEDAR_BAD_DEPTH, 4, { VULCEDAR_SERIAL, 2, VULCEDAR_TASK, 3 } },
+        { VULCEDAR_BAD_DEPTH, 4, { VULCEDAR_SERIAL, 1, VULCEDAR_TASK, 1 } },
+        { VULCEDAR_BAD_DEPTH, 4, { VULCEDAR_SERIAL, 1, VULCEDAR_TASK, 0 } },
+        { VULCEDAR_BAD_DEPTH, 4, { VULCEDAR_SERIAL, 1, VULCEDAR_TASK, 3 } },
+        { VULCEDAR_BAD_DEPTH, 4, { VULCEDAR_SERIAL, 1, VULCEDAR_TASK, 255 } },
+        { VULCEDAR_BAD_DEPTH, 6, { VULCEDAR_TASK, 1, VULCEDAR_TASK, 2, VULCEDAR_TASK, 1 } },
+        { VULCEDAR_TASK_PARENT, 6, { VULCEDAR_CONDITIONAL, 1, VULCEDAR_TASK, 2, VULCEDAR_TASK, 3 } },
+        { VULCEDAR_BAD_CHILDREN, 4, { VULCEDAR_CONDITIONAL, 1, VULCEDAR_TASK, 2 } },
+    };
+    uint8_t deep[2 * VULCEDAR_DEPTH_MOST + 6], out[2 * VULCEDAR_NODES_MOST + 16];
+    for (size_t length = 0; length < 2 * sizeof listed; length++) {
+        uint32_t number = length == sizeof listed ? VULCEDAR_PASSED : VULCEDAR_BAD_BUFFER;
+        expect("a renumbered plan's length", convert(vulcedar_renumber, renumbered, sizeof renumbered, out, length), number);
+        expect("a depth form's length", convert(vulcedar_to_depths, renumbered, sizeof renumbered, out, length), number);
+        expect("its plan's length", convert(vulcedar_from_depths, listed, sizeof listed, out, length), number);
+        for (size_t i = 0; i < sizeof plans / sizeof plans[0]; i++) {
+            uint32_t behind = length == plans[i].len ? VULCEDAR_PASSED : VULCEDAR_BAD_BUFFER;
+            uint32_t renumbering = plans[i].number == VULCEDAR_NOT_RENUMBERED ? behind : plans[i].number;
+            expect("renumbering a plan", convert(vulcedar_renumber, plans[i].bytes, plans[i].len, out, length), renumbering);
+            expect("a plan's depth form", convert(vulcedar_to_depths, plans[i].bytes, plans[i].len, out, length), plans[i].number);
+        }
+        for (size_t i = 0; i < sizeof lists / sizeof lists[0]; i++)
+            expect("a depth form", convert(vulcedar_from_depths, lists[i].bytes, lists[i].len, out, length), lists[i].number);
+    }
+    for (size_t length = 1; length < sizeof listed; length += 2) {
+        expect("half a node", convert(vulcedar_renumber, renumbered, length, out, length), VULCEDAR_BAD_LENGTH);
+        expect("half a node's depth", convert(vulcedar_to_depths, renumbered, length, out, length), VULCEDAR_BAD_LENGTH);
+        expect("half a line", convert(vulcedar_from_depths, listed, length, out, length), VULCEDAR_BAD_LENGTH);
+    }
+    /* as deep as may be, and one deeper: serials below each other, a task, and one more task below the root */
+    for (size_t levels = VULCEDAR_DEPTH_MOST; levels <= VULCEDAR_DEPTH_MOST + 1; levels++) {
+        uint32_t number = levels > VULCEDAR_DEPTH_MOST ? VULCEDAR_TOO_DEEP : VULCEDAR_PASSED;
+        uint32_t mixed = levels > VULCEDAR_DEPTH_MOST ? VULCEDAR_TOO_DEEP : VULCEDAR_NOT_RENUMBERED;
+        for (size_t v = 0; v < levels; v++) deep[2 * v] = byte_of(v + 1 < levels ? VULCEDAR_SERIAL : VULCEDAR_TASK), deep[2 * v + 1] = byte_of(v + 1);
+        deep[2 * levels] = VULCEDAR_TASK, deep[2 * levels + 1] = 2;
+        expect("a deep form", convert(vulcedar_from_depths, deep, 2 * levels + 2, out, 2 * levels + 2), number);
+        deep[2 * levels + 1] = 1;
+        expect("17 before 6", convert(vulcedar_from_depths, deep, 2 * levels + 2, out, 2 * levels + 2), VULCEDAR_BAD_DEPTH);
+        for (size_t v = 0; v < levels; v++) deep[2 * v + 1] = byte_of(v == 0 ? VULCEDAR_NO_PARENT : v - 1);
+        deep[2 * levels + 1] = 1, deep[2 * levels + 2] = VULCEDAR_TASK, deep[2 * levels + 3] = 0;
+        expect("a deep plan", convert(vulcedar_to_depths, deep, 2 * levels + 4, out, 2 * levels + 4), number);
+        deep[2 * levels + 1] = 0, deep[2 * levels + 3] = 1;
+        expect("6 before 18", convert(vulcedar_to_depths, deep, 2 * levels + 4, out, 2 * levels + 4), mixed);
+        expect("renumbering it", convert(vulcedar_renumber, deep, 2 * levels + 4, out, 2 * levels + 4), number);
+    }
+}
+
 /* Task 1, then task 2: site 2 is told that 1 committed, which it did not, and the block commits without it. */
 static void false_message(void)
 {
@@ -719,7 +850,9 @@ int main(void)
     unchanged();
     ways();
     no_targets();
+    forms();
+    refused_forms();
     false_message();
-    if (wrong == 0) printf("header: nulls, parts of results, a journal, its points, tables, desks, a changed answer, ways, the version and a false message are as it says\n");
+    if (wrong == 0) printf("header: nulls, parts of results, a journal, its points, tables, desks, a changed answer, ways, forms of a plan, the version and a false message are as it says\n");
     return wrong == 0 ? 0 : 1;
 }

@@ -16,6 +16,7 @@ enum { NODES = VULCEDAR_NODES_MOST };
 #define PAINT 0xa5a5a5a5a5a5a5a5u
 
 static uint8_t plan[2 * NODES], row[NODES], marks[NODES], notes[NODES], classes[NODES], answers[NODES], out[2 * NODES];
+static uint8_t fixed[2 * NODES], depths[2 * NODES]; /* the plan in the fixed numbering, and its depth form */
 static uint8_t passed[NODES]; /* the marks of the pass over the answers */
 static uint8_t with_desks[3 * NODES], desk_state[NODES * NODES]; /* the same plan with desks */
 static size_t desk_len; /* of that state */
@@ -31,6 +32,10 @@ static uint32_t nodes, code, node, answer;
 static void nothing(void) { answer = 0; }
 static void check(void) { answer = vulcedar_check(plan, 2 * nodes); }
 static void rewrite(void) { answer = vulcedar_rewrite(plan, 2 * nodes, out, 2 * nodes); }
+static void renumber(void) { answer = vulcedar_renumber(plan, 2 * nodes, out, 2 * nodes); }
+static void to_depths(void) { answer = vulcedar_to_depths(fixed, 2 * nodes, out, 2 * nodes); }
+static void not_renumbered(void) { answer = vulcedar_to_depths(plan, 2 * nodes, out, 2 * nodes); }
+static void from_depths(void) { answer = vulcedar_from_depths(depths, 2 * nodes, out, 2 * nodes); }
 static void check_depths(void) { answer = vulcedar_check_depths(plan, 2 * nodes, out, nodes); }
 static void guard(void) { answer = vulcedar_guard(plan, 2 * nodes, code, node, buf, sizeof buf); }
 static void short_guard(void) { answer = vulcedar_guard(plan, 2 * nodes, code, node, buf, sizeof buf - 1); }
@@ -76,6 +81,7 @@ static void rehearse(void) { answer = vulcedar_rehearse(text, text_len, printed,
 /* events: 0 called once, 1 for each event and all that may have been heard, 2 for each target. */
 static struct call { const char *name; void (*run)(void); int events; size_t most; } calls[] = {
     { "check", check, 0, 0 }, { "rewrite", rewrite, 0, 0 }, { "check_depths", check_depths, 0, 0 },
+    { "renumber", renumber, 0, 0 }, { "to_depths", to_depths, 0, 0 }, { "to_depths (as it is)", not_renumbered, 0, 0 }, { "from_depths", from_depths, 0, 0 },
     { "guard", guard, 1, 0 }, { "guard (short buffer)", short_guard, 1, 0 }, { "rule", rule, 1, 0 }, { "step", step, 1, 0 },
     { "hear", hear, 1, 0 }, { "pass", pass, 0, 0 }, { "impact", impact, 1, 0 }, { "way", find, 2, 0 }, { "simulate (event)", happen, 1, 0 }, { "simulate (message)", tell, 1, 0 },
     { "keep (event)", keep_event, 1, 0 }, { "keep (message)", keep_message, 1, 0 },
@@ -207,6 +213,9 @@ static void measure_plan(size_t none)
 {
     uint32_t r = vulcedar_check(plan, 2 * nodes);
     if (r != VULCEDAR_PASSED) printf("stack: a plan is refused with %u\n", r), exit(1);
+    r = vulcedar_renumber(plan, 2 * nodes, fixed, 2 * nodes);
+    if (r == VULCEDAR_PASSED) r = vulcedar_to_depths(fixed, 2 * nodes, depths, 2 * nodes);
+    if (r != VULCEDAR_PASSED) printf("stack: a plan has no depth form: %u\n", r), exit(1);
     seat();
     r = vulcedar_desk_record(with_desks, 3 * nodes, desk_state, desk_len, marks, nodes, classes, nodes);
     if (r != VULCEDAR_PASSED) printf("stack: a plan with desks is refused with %u\n", r), exit(1);

@@ -5,6 +5,7 @@ use differential::codes::*;
 use differential::driver::{Driver, Step, Temper, Tree};
 use differential::form::{Form, Seats};
 use differential::implementation::{Change, Wanted};
+use differential::plans;
 use differential::random::Random;
 use differential::{Implementation, Reference};
 
@@ -28,6 +29,11 @@ pub struct PlacedStep {
 pub struct Fixture {
     pub form: Form,
     pub plan: Vec<u8>,
+    /// The plain plan in no order: each node anywhere behind its parent and its
+    /// sibling before. The plan itself is in the fixed numbering.
+    pub mixed: Vec<u8>,
+    /// The plain plan's depth form.
+    pub depths: Vec<u8>,
     pub nodes: usize,
     /// All events that apply, with the row by which each is decided.
     pub events: Vec<(u32, u32, usize)>,
@@ -83,8 +89,11 @@ impl Fixture {
         let answers = vec![1; nodes];
         let (passed, tasks) = changeable(&form.plain(&plan), &answers);
         let (ways, no_ways) = targets(&form.plain(&plan), nodes);
+        let (mixed, depths) = forms(&form.plain(&plan));
         Fixture {
             form,
+            mixed,
+            depths,
             nodes,
             events,
             steps,
@@ -100,6 +109,14 @@ impl Fixture {
             plan,
         }
     }
+}
+
+/// The same tree in no order, and the depth form.
+fn forms(plan: &[u8]) -> (Vec<u8>, Vec<u8>) {
+    let mixed = plans::mixed_numbering(&mut Random::new(plan.len() as u64), plan);
+    let mut depths = vec![0; plan.len()];
+    assert_eq!(Reference.to_depths(plan, &mut depths), 0);
+    (mixed, depths)
 }
 
 /// A plan with desks: about three nodes share one, and neither they nor the
@@ -249,6 +266,9 @@ mod tests {
             assert_eq!(number(result), 0, "{nodes}");
             assert!(fixture.text.len() > LONGEST_TEXT - 7, "{nodes}: {}", fixture.text.len());
             assert!(fixture.tasks.len() > nodes / 4, "{nodes}: {:?}", fixture.tasks);
+            let mut renumbered = vec![0; 2 * nodes];
+            assert_eq!(Reference.renumber(&fixture.mixed, &mut renumbered), 0, "{nodes}");
+            assert!(renumbered == fixture.plan && !plans::is_fixed(&fixture.mixed), "{nodes}");
             let mut answers = vec![0; nodes];
             let mut number = |&wanted: &Wanted| Reference.way(&fixture.plan, wanted, &mut answers);
             assert!(fixture.ways.len() == 2 * nodes && fixture.no_ways.len() > nodes / 2, "{nodes}");

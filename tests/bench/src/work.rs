@@ -11,10 +11,13 @@ use differential::texts::OUT_BYTES;
 use std::hint::black_box;
 
 /// The measured functions.
-pub const NAMES: [&str; 32] = [
+pub const NAMES: [&str; 35] = [
     "check",
     "depths",
     "rewrite",
+    "renumber",
+    "to_depths",
+    "from_depths",
     "guard",
     "rule",
     "step",
@@ -139,7 +142,8 @@ impl Work {
     /// How many calls a round has.
     pub fn calls(&self) -> usize {
         match self.function {
-            "check" | "depths" | "rewrite" | "pass" | "record" | "record_by" => CALLS,
+            "check" | "depths" | "rewrite" | "renumber" | "to_depths" | "from_depths" => CALLS,
+            "pass" | "record" | "record_by" => CALLS,
             "check_table" | "pass_record" | "point_name" | "point_full" => CALLS,
             "rehearse" => 1,
             "impact" => 2 * self.fixture.tasks.len(),
@@ -158,6 +162,18 @@ impl Work {
             "rewrite" => self.repeat(|work| {
                 let plan = &work.fixture.plan;
                 subject.rewrite(black_box(plan), &mut work.rewritten)
+            }),
+            "renumber" => self.repeat(|work| {
+                let plan = black_box(&work.fixture.mixed);
+                subject.renumber(plan, &mut work.rewritten) + u32::from(work.rewritten[5])
+            }),
+            "to_depths" => self.repeat(|work| {
+                let plan = black_box(&work.fixture.plan);
+                subject.to_depths(plan, &mut work.rewritten) + u32::from(work.rewritten[5])
+            }),
+            "from_depths" => self.repeat(|work| {
+                let depths = black_box(&work.fixture.depths);
+                subject.from_depths(depths, &mut work.rewritten) + u32::from(work.rewritten[5])
             }),
             "depths" => {
                 self.repeat(|work| subject.check_depths(black_box(&work.fixture.plan), &mut work.out))

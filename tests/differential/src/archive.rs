@@ -20,6 +20,18 @@ impl Implementation for Archive {
         vulcedar::rewrite(plan, out)
     }
 
+    fn renumber(&mut self, plan: &[u8], out: &mut [u8]) -> u32 {
+        vulcedar::renumber(plan, out)
+    }
+
+    fn to_depths(&mut self, plan: &[u8], out: &mut [u8]) -> u32 {
+        vulcedar::to_depths(plan, out)
+    }
+
+    fn from_depths(&mut self, depths: &[u8], out: &mut [u8]) -> u32 {
+        vulcedar::from_depths(depths, out)
+    }
+
     fn check_depths(&mut self, plan: &[u8], depths: &mut [u8]) -> u32 {
         vulcedar::check_depths(plan, depths)
     }

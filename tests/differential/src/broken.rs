@@ -5,10 +5,12 @@ use crate::codes::*;
 use crate::driver::{Step, Tree};
 use crate::form::{Form, Kept};
 use crate::implementation::{Change, Entry, Implementation, Reference, Slots, Wanted};
+use crate::plans;
 use crate::tables;
 use crate::texts::{OUT_BYTES, Sound};
 
 mod desks;
+mod forms;
 mod impact;
 mod points;
 mod way;
@@ -521,11 +523,100 @@ pub enum Mistake {
     ZeroLast,
     /// An xor picks wherever one of its children can offer.
     NoneOffersLast,
+    /// Renumbering takes children in falling number.
+    ChildrenFalling,
+    /// Renumbering takes children in the order of their kinds.
+    ChildrenByKind,
+    /// Renumbering goes level by level.
+    LevelByLevel,
+    /// Renumbering has all children of a node before what is below them.
+    SiblingsTogether,
+    /// Renumbering brings the subtrees of the root's children together, and no
+    /// others.
+    TopSubtreesOnly,
+    /// Renumbering copies the plan.
+    PlanCopied,
+    /// A renumbered node names its parent by the old number.
+    ParentsNotMoved,
+    /// Renumbering moves parents and leaves the kinds where they were.
+    KindsNotMoved,
+    /// In a renumbered plan the root has 0 for a parent.
+    RootIsItsOwnParent,
+    /// A plan that is in the fixed numbering already is refused with 18.
+    FixedPlanRefused,
+    /// Renumbering finds 7 before what is wrong with the plan.
+    RenumberLengthFirst,
+    /// Renumbering writes into more bytes than the plan has.
+    RenumberIntoMore,
+    /// A renumbering that is refused with 7 has already written.
+    ShortRenumberWrites,
+    /// Renumbering answers the number of nodes as a value.
+    RenumberAnswersNodes,
+    /// For a depth form 7 is found before what is wrong with the plan.
+    FormLengthFirst,
+    /// 7 comes before 18.
+    LengthBeforeNumbering,
+    /// 18 comes before 4, 5 and 6.
+    NumberingBeforeTaskParents,
+    /// 18 comes before 6.
+    NumberingBeforeDepth,
+    /// A plan in any numbering has its nodes' depths for a depth form.
+    AnyNumberingHasAForm,
+    /// A plan in another numbering has the depth form of the renumbered one.
+    FormRenumbers,
+    /// A plan is in the fixed numbering only if each parent is the node before or
+    /// its parent.
+    OneLevelUpOnly,
+    /// A plan is in the fixed numbering if each parent is the last node of its
+    /// depth so far.
+    LastOfItsDepth,
+    /// Depths of a depth form count from 0.
+    FormDepthsFromZero,
+    /// A depth form has parents in place of depths.
+    FormHasParents,
+    /// A line of a depth form has its depth before its kind.
+    DepthBeforeKind,
+    /// A depth form that is refused with 18 has already been written.
+    RefusedFormWrites,
+    /// The first depth may be any.
+    FirstDepthUnchecked,
+    /// A later depth may be 1.
+    LaterDepthOne,
+    /// A depth may be two above that of the line before.
+    JumpOfTwo,
+    /// A depth that is more than one below that of the line before is 17.
+    FallsByOneOnly,
+    /// The parent is the first line that is one less deep.
+    FirstLineLessDeep,
+    /// 17 comes before 2.
+    DepthsBeforeKinds,
+    /// 17 comes after 4.
+    DepthsAfterTaskParents,
+    /// 17 comes after 6.
+    DepthsAfterTree,
+    /// A wrong depth is 3.
+    WrongDepthIs3,
+    /// A depth above 32 is 17.
+    TooDeepIs17,
+    /// The highest bit of a depth is overlooked.
+    FormDepthsCut,
+    /// The plan of a depth form has 0 for the root's parent.
+    FormRootIsItself,
+    /// A depth form that is refused has already written its plan.
+    RefusedPlanWrites,
+    /// For the plan of a depth form 7 comes before 17.
+    LengthBeforeDepths,
+    /// A last byte that makes no line is overlooked.
+    OddByteOverlooked,
+    /// The plan of a depth form is written into more bytes than it has.
+    FormIntoMore,
+    /// The plan of a depth form comes with its number of nodes as a value.
+    FormAnswersLines,
 }
 
 impl Mistake {
     /// All mistakes; the first is number 1.
-    pub const ALL: [Mistake; 250] = [
+    pub const ALL: [Mistake; 293] = [
         Mistake::CommitUnlessAbortHeard,
         Mistake::PickAtTheChild,
         Mistake::TurnedDownStillRuns,
@@ -776,6 +867,49 @@ impl Mistake {
         Mistake::LastNodeFirst,
         Mistake::ZeroLast,
         Mistake::NoneOffersLast,
+        Mistake::ChildrenFalling,
+        Mistake::ChildrenByKind,
+        Mistake::LevelByLevel,
+        Mistake::SiblingsTogether,
+        Mistake::TopSubtreesOnly,
+        Mistake::PlanCopied,
+        Mistake::ParentsNotMoved,
+        Mistake::KindsNotMoved,
+        Mistake::RootIsItsOwnParent,
+        Mistake::FixedPlanRefused,
+        Mistake::RenumberLengthFirst,
+        Mistake::RenumberIntoMore,
+        Mistake::ShortRenumberWrites,
+        Mistake::RenumberAnswersNodes,
+        Mistake::FormLengthFirst,
+        Mistake::LengthBeforeNumbering,
+        Mistake::NumberingBeforeTaskParents,
+        Mistake::NumberingBeforeDepth,
+        Mistake::AnyNumberingHasAForm,
+        Mistake::FormRenumbers,
+        Mistake::OneLevelUpOnly,
+        Mistake::LastOfItsDepth,
+        Mistake::FormDepthsFromZero,
+        Mistake::FormHasParents,
+        Mistake::DepthBeforeKind,
+        Mistake::RefusedFormWrites,
+        Mistake::FirstDepthUnchecked,
+        Mistake::LaterDepthOne,
+        Mistake::JumpOfTwo,
+        Mistake::FallsByOneOnly,
+        Mistake::FirstLineLessDeep,
+        Mistake::DepthsBeforeKinds,
+        Mistake::DepthsAfterTaskParents,
+        Mistake::DepthsAfterTree,
+        Mistake::WrongDepthIs3,
+        Mistake::TooDeepIs17,
+        Mistake::FormDepthsCut,
+        Mistake::FormRootIsItself,
+        Mistake::RefusedPlanWrites,
+        Mistake::LengthBeforeDepths,
+        Mistake::OddByteOverlooked,
+        Mistake::FormIntoMore,
+        Mistake::FormAnswersLines,
     ];
 }
 
@@ -1079,7 +1213,7 @@ impl Broken {
             Mistake::RefusesEveryPlan => 1,
             Mistake::RefusesKind8 if honest != 1 && plain.iter().step_by(2).any(|&kind| kind == 8) => 2,
             Mistake::OneLevelMore if honest == 6 && levels(&plain) == 33 => 0,
-            Mistake::ParentsBeforeKinds if honest == 2 && !parents_are_right(&plain) => 3,
+            Mistake::ParentsBeforeKinds if honest == 2 && !plans::has_tree(&plain) => 3,
             _ => honest,
         }
     }
@@ -1336,6 +1470,18 @@ impl Implementation for Broken {
             _ => {}
         }
         result
+    }
+
+    fn renumber(&mut self, plan: &[u8], out: &mut [u8]) -> u32 {
+        forms::renumber(self.mistake, plan, out)
+    }
+
+    fn to_depths(&mut self, plan: &[u8], out: &mut [u8]) -> u32 {
+        forms::to_depths(self.mistake, plan, out)
+    }
+
+    fn from_depths(&mut self, depths: &[u8], out: &mut [u8]) -> u32 {
+        forms::from_depths(self.mistake, depths, out)
     }
 
     fn check_depths(&mut self, plan: &[u8], depths: &mut [u8]) -> u32 {
@@ -1744,9 +1890,4 @@ fn levels(plan: &[u8]) -> usize {
         level[node] = level[usize::from(plan[2 * node + 1])] + 1;
     }
     level.into_iter().max().unwrap_or(0)
-}
-
-fn parents_are_right(plan: &[u8]) -> bool {
-    let mut parents = plan.iter().skip(1).step_by(2).enumerate();
-    parents.all(|(node, &parent)| if node == 0 { parent == 0xff } else { usize::from(parent) < node })
 }

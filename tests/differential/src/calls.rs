@@ -11,11 +11,13 @@ use crate::tables;
 use crate::trial::Trial;
 
 mod desks;
+mod forms;
 mod impact;
 mod points;
 mod way;
 
 pub use desks::{damaged_plans_with_desks, lengths_with_desks, own_desks};
+pub use forms::{every_form, forms};
 pub use impact::{every_small_plan, impacts};
 pub use points::points;
 pub use way::{every_target, ways};
@@ -30,6 +32,9 @@ pub fn damaged_plans<S: Implementation, R: Implementation>(trial: &mut Trial<S, 
         trial.check(&plan);
         let out_length = length(random, plan.len());
         trial.rewrite(&plan, &random.bytes(out_length));
+        trial.renumber(&plan, &random.bytes(out_length));
+        trial.to_depths(&plan, &random.bytes(out_length));
+        trial.from_depths(&plan, &random.bytes(out_length));
         let nodes = plan.len() / 2;
         let (code, node) = event(random, nodes);
         let site = if random.chance(50) { HAPPENS } else { any_node(random, nodes) };

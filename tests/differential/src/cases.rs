@@ -8,6 +8,7 @@ use crate::tables::COMMON;
 use crate::trial::{Trial, hex};
 
 mod desks;
+mod forms;
 mod impact;
 mod points;
 mod way;
@@ -31,12 +32,13 @@ pub fn run<S: Implementation, R: Implementation>(trial: &mut Trial<S, R>) {
     desks::run(trial);
     impact::run(trial);
     way::run(trial);
+    forms::run(trial);
 }
 
-/// Version 1.5.0.
+/// Version 1.6.0.
 fn version<S: Implementation, R: Implementation>(trial: &mut Trial<S, R>) {
     let version = trial.version();
-    trial.tally.compare(version == 0x01_0500, || format!("the version is {version:08x}"));
+    trial.tally.compare(version == 0x01_0600, || format!("the version is {version:08x}"));
 }
 
 /// A guard: the event, its rule, and what must be written.

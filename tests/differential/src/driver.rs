@@ -284,6 +284,12 @@ impl Tree {
         std::iter::successors(self.parents[node], |&block| self.parents[block]).collect()
     }
 
+    /// A node and all below it, each child's subtree before the next child.
+    pub fn subtree(&self, node: usize) -> Vec<usize> {
+        let below = self.children[node].iter().flat_map(|&child| self.subtree(child));
+        std::iter::once(node).chain(below).collect()
+    }
+
     /// Whether the parent is an xor.
     pub fn is_below_xor(&self, node: usize) -> bool {
         self.parents[node].is_some_and(|parent| self.kinds[parent] == XOR)

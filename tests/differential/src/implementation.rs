@@ -40,6 +40,13 @@ pub trait Implementation {
     fn check(&mut self, plan: &[u8]) -> u32;
     /// Rewrites a plan from before kind 08.
     fn rewrite(&mut self, plan: &[u8], out: &mut [u8]) -> u32;
+    /// Writes a plan in the fixed numbering.
+    fn renumber(&mut self, plan: &[u8], out: &mut [u8]) -> u32;
+    /// Writes the depth form of a plan.
+    fn to_depths(&mut self, plan: &[u8], out: &mut [u8]) -> u32;
+    /// Writes the plan of a depth form.
+    #[allow(clippy::wrong_self_convention, reason = "it is named as in C")]
+    fn from_depths(&mut self, depths: &[u8], out: &mut [u8]) -> u32;
     /// Checks a plan and writes every node's depth.
     fn check_depths(&mut self, plan: &[u8], depths: &mut [u8]) -> u32;
     /// Writes a guard.
@@ -184,6 +191,18 @@ impl Implementation for Reference {
 
     fn rewrite(&mut self, plan: &[u8], out: &mut [u8]) -> u32 {
         exported::rewrite(plan, out)
+    }
+
+    fn renumber(&mut self, plan: &[u8], out: &mut [u8]) -> u32 {
+        exported::renumber(plan, out)
+    }
+
+    fn to_depths(&mut self, plan: &[u8], out: &mut [u8]) -> u32 {
+        exported::to_depths(plan, out)
+    }
+
+    fn from_depths(&mut self, depths: &[u8], out: &mut [u8]) -> u32 {
+        exported::from_depths(depths, out)
     }
 
     fn check_depths(&mut self, plan: &[u8], depths: &mut [u8]) -> u32 {

@@ -4,6 +4,11 @@ use crate::codes::{AND, CONDITIONAL, CONTINGENCY, OR, SERIAL, TASK, WAITING_AND,
 use crate::form::HIGHEST_DESK;
 use crate::random::Random;
 
+mod forms;
+
+pub use forms::{any_numbering, any_order, are_same_tree, deep, fixed, has_tree, is_fixed, mixed_numbering};
+pub use forms::{damaged_form, lines};
+
 /// The most nodes, children and levels a plan may have.
 const MOST_NODES: usize = 160;
 const MOST_CHILDREN: usize = 32;
@@ -368,10 +373,15 @@ fn joined(plan: &[u8], desks: &[u8]) -> Vec<u8> {
 /// The numbers below a limit, in any order.
 fn shuffled(random: &mut Random, limit: usize) -> Vec<u8> {
     let mut numbers: Vec<u8> = (0..limit).map(|number| number as u8).collect();
-    for place in (1..limit).rev() {
-        numbers.swap(place, random.below(place + 1));
-    }
+    shuffle(random, &mut numbers);
     numbers
+}
+
+/// Brings a list into any order.
+fn shuffle<T>(random: &mut Random, list: &mut [T]) {
+    for place in (1..list.len()).rev() {
+        list.swap(place, random.below(place + 1));
+    }
 }
 
 #[cfg(test)]

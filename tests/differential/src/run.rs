@@ -23,6 +23,11 @@ pub const CASES_PART: u64 = ONLY_CHILD_PART + 1;
 pub const SMALL_PLANS_PART: u64 = ONLY_CHILD_PART + 2;
 /// The part with every target of every small plan.
 pub const TARGETS_PART: u64 = ONLY_CHILD_PART + 3;
+/// The part with every small plan in every form.
+pub const SMALL_FORMS_PART: u64 = ONLY_CHILD_PART + 4;
+/// The place of the parts in which plans are rewritten, renumbered and brought
+/// into depth form.
+pub const FORMS_PART: u64 = 22;
 /// The place of the parts with hosts.
 pub const HOSTS_PART: u64 = 23;
 /// The place of the parts with lists of moves.
@@ -89,7 +94,7 @@ pub fn run_against(subject: impl Implementation, reference: impl Implementation,
         run_part(&mut trial, options.seed, part);
         part += 1;
     }
-    for part in [ONLY_CHILD_PART, CASES_PART, SMALL_PLANS_PART, TARGETS_PART] {
+    for part in [ONLY_CHILD_PART, CASES_PART, SMALL_PLANS_PART, TARGETS_PART, SMALL_FORMS_PART] {
         if trial.tally.differences() < options.enough {
             run_part(&mut trial, options.seed, part);
         }
@@ -120,6 +125,9 @@ fn run_part<S: Implementation, R: Implementation>(trial: &mut Trial<S, R>, seed:
     if part == TARGETS_PART {
         return calls::every_target(trial);
     }
+    if part == SMALL_FORMS_PART {
+        return calls::every_form(trial);
+    }
     let plan = if part % (4 * TURN) == 47 { large_plan(random) } else { any_plan(random) };
     let place = part % TURN;
     if place >= DESKS_PART {
@@ -133,7 +141,10 @@ fn run_part<S: Implementation, R: Implementation>(trial: &mut Trial<S, R>, seed:
         4 | 20 => calls::views(trial, random, &plan),
         5 | 21 => calls::states(trial, random, &plan),
         6 => calls::lengths(trial, random, &plan),
-        22 => calls::rewrites(trial, random, &plan),
+        FORMS_PART => {
+            calls::rewrites(trial, random, &plan);
+            calls::forms(trial, random, &plan);
+        }
         23 => all_hosts(trial, random),
         24 => texts::calls(trial, random, TEXTS_CALLED),
         25 => all_journals(trial, random),

@@ -12,6 +12,12 @@ pub enum Function {
     Check,
     /// `vulcedar_rewrite`
     Rewrite,
+    /// `vulcedar_renumber`
+    Renumber,
+    /// `vulcedar_to_depths`
+    ToDepths,
+    /// `vulcedar_from_depths`
+    FromDepths,
     /// `vulcedar_check_depths`
     CheckDepths,
     /// `vulcedar_guard`
@@ -78,7 +84,7 @@ pub enum Function {
 }
 
 /// How many functions there are.
-const FUNCTIONS: usize = 33;
+const FUNCTIONS: usize = 36;
 /// One more than the highest number; 0 is passed.
 const NUMBERS: usize = 31;
 
@@ -87,6 +93,9 @@ impl Function {
     pub const ALL: [Function; FUNCTIONS] = [
         Function::Check,
         Function::Rewrite,
+        Function::Renumber,
+        Function::ToDepths,
+        Function::FromDepths,
         Function::CheckDepths,
         Function::Guard,
         Function::Rule,
@@ -125,6 +134,9 @@ impl Function {
         match self {
             Function::Check => "check",
             Function::Rewrite => "rewrite",
+            Function::Renumber => "renumber",
+            Function::ToDepths => "to_depths",
+            Function::FromDepths => "from_depths",
             Function::CheckDepths => "depths",
             Function::Guard => "guard",
             Function::Rule => "rule",
@@ -174,7 +186,11 @@ impl Function {
             Function::Undo | Function::PointUndo => &[0, 1, 2, 3, 4, 5, 6, 7, 8, 9, 16],
             Function::PointName => &[0, 7, 20],
             Function::PointBack => &[0, 1, 2, 3, 4, 5, 6, 7, 8, 9, 19],
-            Function::Rewrite | Function::Record | Function::CheckDepths => &[0, 1, 2, 3, 4, 5, 6, 7],
+            Function::Rewrite | Function::Renumber | Function::Record | Function::CheckDepths => {
+                &[0, 1, 2, 3, 4, 5, 6, 7]
+            }
+            Function::ToDepths => &[0, 1, 2, 3, 4, 5, 6, 7, 18],
+            Function::FromDepths => &[0, 1, 2, 4, 5, 6, 7, 17],
             Function::RecordBy => &[0, 1, 2, 3, 4, 5, 6, 7, 21],
             Function::CheckTable => &[0, 21],
             Function::PassRecord => &[0, 1, 2, 3, 4, 5, 6, 7, 13, 14, 21],
@@ -257,6 +273,16 @@ pub struct Jobs {
     pub against_one_list: u64,
     /// Targets that were held against every list of answers.
     pub against_all_lists: u64,
+    /// Plans that were renumbered.
+    pub renumbered: u64,
+    /// Of these, in another numbering before.
+    pub from_other_numberings: u64,
+    /// Pairs of plans that were renumbered and compared, of the same tree.
+    pub same_trees: u64,
+    /// Such pairs of different trees.
+    pub different_trees: u64,
+    /// Depth forms that were accepted.
+    pub accepted_forms: u64,
 }
 
 /// A count for each rule byte.
@@ -429,6 +455,16 @@ impl fmt::Display for Tally {
             out,
             "ways: {} found, {} targets without; {} held against a list that leads there, {} against every list",
             jobs.ways, jobs.without_way, jobs.against_one_list, jobs.against_all_lists
+        )?;
+        writeln!(
+            out,
+            "forms: {} plans renumbered, {} from another numbering; {} pairs of the same tree, {} of different \
+             ones; {} depth forms accepted",
+            jobs.renumbered,
+            jobs.from_other_numberings,
+            jobs.same_trees,
+            jobs.different_trees,
+            jobs.accepted_forms
         )?;
         writeln!(out, "rules of passed events: {} different", self.rules())?;
         writeln!(out, "texts: {}", self.texts)?;

@@ -10,6 +10,7 @@ use crate::lent::{Journal, Lent, Pair, Points};
 use crate::tables;
 use crate::tally::{Function, Tally};
 
+mod forms;
 mod impact;
 mod points;
 mod way;

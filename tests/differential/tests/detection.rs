@@ -5,7 +5,9 @@ use differential::Reference;
 use differential::broken::{Broken, Mistake};
 use differential::run::{CASES_PART, HOSTS_PART, JOURNALS_PART, ONLY_CHILD_PART, POINTS_PART, TURN};
 use differential::run::{DESK_JOBS_PART, DESK_MOVES_PART, DESK_POINTS_PART, ONE_DESK_PART, OWN_DESKS_PART};
-use differential::run::{IMPACT_PART, SMALL_PLANS_PART, TARGETS_PART, WAYS_PART};
+use differential::run::{
+    FORMS_PART, IMPACT_PART, SMALL_FORMS_PART, SMALL_PLANS_PART, TARGETS_PART, WAYS_PART,
+};
 use differential::run::{Options, run, run_against};
 use differential::tally::Tally;
 
@@ -27,9 +29,20 @@ fn of_impact() -> impl Iterator<Item = Mistake> {
     before_ways.skip_while(|&mistake| mistake != Mistake::MarksBeforeFaults)
 }
 
-/// The mistakes where a way is looked for; they stand at the end.
+/// The mistakes where a way is looked for.
 fn of_ways() -> impl Iterator<Item = Mistake> {
-    Mistake::ALL.into_iter().skip_while(|&mistake| mistake != Mistake::LargestWay)
+    let before_forms = Mistake::ALL.into_iter().take_while(|&mistake| mistake != Mistake::ChildrenFalling);
+    before_forms.skip_while(|&mistake| mistake != Mistake::LargestWay)
+}
+
+/// The mistakes where a plan is brought into another form; they stand at the end.
+fn of_forms() -> impl Iterator<Item = Mistake> {
+    Mistake::ALL.into_iter().skip_while(|&mistake| mistake != Mistake::ChildrenFalling)
+}
+
+/// The mistakes of the later calls, which have parts of their own.
+fn of_later_calls() -> impl Iterator<Item = Mistake> {
+    of_points().chain(of_desks()).chain(of_impact()).chain(of_ways()).chain(of_forms())
 }
 
 /// These parts find nothing between two copies of the reference, in each of
@@ -72,6 +85,9 @@ fn two_copies_of_the_reference_agree() {
     assert!(tally.jobs.changes > 10_000 && tally.jobs.in_later_subtrees > 1000, "{}", tally.jobs.changes);
     assert!(tally.jobs.ways > 10_000 && tally.jobs.without_way > 10_000, "{}", tally.jobs.ways);
     assert!(tally.jobs.against_one_list > 500, "{}", tally.jobs.against_one_list);
+    assert!(tally.jobs.from_other_numberings > 1000, "{}", tally.jobs.from_other_numberings);
+    assert!(tally.jobs.same_trees > 500 && tally.jobs.different_trees > 300, "{}", tally.jobs.same_trees);
+    assert!(tally.jobs.accepted_forms > 5000, "{}", tally.jobs.accepted_forms);
 }
 
 #[test]
@@ -171,9 +187,7 @@ fn a_mistake_on_both_sides_is_found() {
         Mistake::HearRefusesRepeats,
     ];
     let options = Options { seed: 15, steps: 1_000_000, texts: 0, enough: 1, only: None };
-    for mistake in
-        mistakes.into_iter().chain(of_points()).chain(of_desks()).chain(of_impact()).chain(of_ways())
-    {
+    for mistake in mistakes.into_iter().chain(of_later_calls()) {
         let tally = run_against(Broken::new(mistake), Broken::new(mistake), options);
         assert_ne!(tally.differences(), 0, "{mistake:?} on both sides is not found");
         assert!(tally.part < ONLY_CHILD_PART, "{mistake:?} is found in the fixed parts alone");
@@ -186,7 +200,7 @@ fn a_mistake_on_both_sides_is_found() {
 fn cases_have_their_answers() {
     let options = Options { only: Some(CASES_PART), ..Options::default() };
     let tally = run(Reference, options);
-    assert_eq!((tally.comparisons(), tally.differences()), (402, 0), "{:#?}", tally.described());
+    assert_eq!((tally.comparisons(), tally.differences()), (675, 0), "{:#?}", tally.described());
     let mistakes = [
         Mistake::VersionInTheLowestByte,
         Mistake::VersionOneHigher,
@@ -216,9 +230,7 @@ fn cases_have_their_answers() {
         Mistake::UndoRewritesTheEntry,
         Mistake::RefusedUndoCounts,
     ];
-    for mistake in
-        mistakes.into_iter().chain(of_points()).chain(of_desks()).chain(of_impact()).chain(of_ways())
-    {
+    for mistake in mistakes.into_iter().chain(of_later_calls()) {
         let tally = run_against(Broken::new(mistake), Broken::new(mistake), options);
         assert_ne!(tally.differences(), 0, "{mistake:?} on both sides is not found");
     }
@@ -480,6 +492,44 @@ fn every_target_is_tried() {
         Mistake::NoneOffersLast,
     ];
     for mistake in mistakes {
+        let tally = run_against(Broken::new(mistake), Broken::new(mistake), options);
+        assert_ne!(tally.differences(), 0, "{mistake:?} on both sides is not found");
+    }
+}
+
+/// Forms of plans alone find what is wrong with them, even if both sides do it: by
+/// the tree, and by going there and back.
+#[test]
+fn forms_are_held_against_the_tree() {
+    let mistakes: Vec<Mistake> = of_forms().collect();
+    parts_find([FORMS_PART, 20], 26, |tally| tally.jobs.same_trees, &mistakes);
+}
+
+/// All small plans and depth forms find these too, even if both sides make them.
+/// What they don't try are plans that are refused, other lengths, what is deep, and
+/// bytes that are large.
+#[test]
+fn every_small_form_is_tried() {
+    let options = Options { only: Some(SMALL_FORMS_PART), enough: 1, ..Options::default() };
+    let tally = run(Reference, options);
+    assert_eq!(tally.differences(), 0, "{:#?}", tally.described());
+    assert_eq!((tally.jobs.renumbered, tally.jobs.from_other_numberings), (4962, 1508));
+    assert!(tally.comparisons() > 150_000, "{}", tally.comparisons());
+    let not_tried = [
+        Mistake::RenumberLengthFirst,
+        Mistake::RenumberIntoMore,
+        Mistake::ShortRenumberWrites,
+        Mistake::FormLengthFirst,
+        Mistake::LengthBeforeNumbering,
+        Mistake::NumberingBeforeTaskParents,
+        Mistake::NumberingBeforeDepth,
+        Mistake::TooDeepIs17,
+        Mistake::FormDepthsCut,
+        Mistake::LengthBeforeDepths,
+        Mistake::OddByteOverlooked,
+        Mistake::FormIntoMore,
+    ];
+    for mistake in of_forms().filter(|mistake| !not_tried.contains(mistake)) {
         let tally = run_against(Broken::new(mistake), Broken::new(mistake), options);
         assert_ne!(tally.differences(), 0, "{mistake:?} on both sides is not found");
     }

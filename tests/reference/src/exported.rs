@@ -14,7 +14,7 @@ use crate::simulate::Outcome;
 use crate::site::Verdict;
 use crate::table::Table;
 use crate::way as ways;
-use crate::{central as central_rule, desks, guard as guards, journal as journals};
+use crate::{central as central_rule, desks, forms, guard as guards, journal as journals};
 use crate::{impact as impacts, pass as passes, plan, points};
 use crate::{rewrite as rewriting, rule as rules, simulate as simulation, site as sites, text as texts};
 
@@ -43,6 +43,24 @@ pub fn check(plan: &[u8]) -> u32 {
 #[inline(never)]
 pub fn rewrite(plan: &[u8], out: &mut [u8]) -> u32 {
     done(rewriting::rewrite(plan, out))
+}
+
+/// Writes a plan in the fixed numbering. 1 to 7.
+#[inline(never)]
+pub fn renumber(plan: &[u8], out: &mut [u8]) -> u32 {
+    done(forms::renumber(plan, out))
+}
+
+/// Writes the depth form of a plan. 1 to 6, 18, 7.
+#[inline(never)]
+pub fn to_depths(plan: &[u8], out: &mut [u8]) -> u32 {
+    done(forms::to_depths(plan, out))
+}
+
+/// Writes the plan of a depth form. 1, 2, 17, 4 to 7.
+#[inline(never)]
+pub fn from_depths(depths: &[u8], out: &mut [u8]) -> u32 {
+    done(forms::from_depths(depths, out))
 }
 
 /// Checks a plan and writes every node's depth: 1 to 7.
@@ -296,10 +314,10 @@ pub fn rehearse(text: &[u8], out: &mut [u8]) -> u32 {
     }
 }
 
-/// The version of these calls, a byte each for its three numbers: 1.5.0.
+/// The version of these calls, a byte each for its three numbers: 1.6.0.
 #[inline(never)]
 pub fn version() -> u32 {
-    (1 << 16) + (5 << 8)
+    (1 << 16) + (6 << 8)
 }
 
 /// The central rule; the value is 1 if the event was allowed. 1 to 9.

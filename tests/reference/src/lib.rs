@@ -21,6 +21,7 @@ pub mod central;
 pub mod desks;
 pub mod event;
 pub mod exported;
+pub mod forms;
 pub mod guard;
 pub mod impact;
 pub mod journal;

@@ -172,21 +172,21 @@ fn somebody(link: u8) -> Option<usize> {
 }
 
 /// Two bytes a node, if that comes out even and within the limit.
-fn split(bytes: &[u8]) -> Option<&[Node]> {
+pub(crate) fn split(bytes: &[u8]) -> Option<&[Node]> {
     match bytes.as_chunks() {
         (nodes, []) if (1..=MAX_NODES).contains(&nodes.len()) => Some(nodes),
         _ => None,
     }
 }
 
-fn require(met: bool, refusal: Refusal) -> Result<(), Refusal> {
+pub(crate) fn require(met: bool, refusal: Refusal) -> Result<(), Refusal> {
     if met { Ok(()) } else { Err(refusal) }
 }
 
 // The loops below look at every node even after a fault: without an early
 // way out they are faster on a plan that is right.
 
-fn kinds_known(nodes: &[Node]) -> bool {
+pub(crate) fn kinds_known(nodes: &[Node]) -> bool {
     nodes.iter().fold(true, |known, node| known & (1..=8).contains(&node[0]))
 }
 

@@ -40,6 +40,10 @@ pub enum Refusal {
     Text = 15,
     /// There is no step to take back.
     NoStep = 16,
+    /// A depth form has a depth that no node can have there.
+    DepthForm = 17,
+    /// The plan is not in the fixed numbering.
+    Numbering = 18,
     /// No point has the name.
     UnknownPoint = 19,
     /// All slots have points of other names.

@@ -44,6 +44,8 @@ fn exported_functions_do_not_allocate() {
     let before = COUNT.get();
     let mut sum = exported::check(&plan) + exported::rewrite(&plan, &mut buffer[..12]);
     sum += exported::check_depths(&plan, &mut marks);
+    sum += exported::renumber(&plan, &mut buffer[..12]) + exported::to_depths(&plan, &mut buffer[..12]);
+    sum += exported::from_depths(&[2, 1, 1, 2], &mut buffer[..4]);
     for code in 0..10 {
         for node in 0..7 {
             sum += exported::guard(&plan, code, node, &mut buffer);

@@ -20,6 +20,24 @@ pub fn rewrite(plan: &[u8], out: &mut [u8]) -> u32 {
     unsafe { raw::vulcedar_rewrite(plan.as_ptr(), plan.len(), out.as_mut_ptr(), out.len()) }
 }
 
+/// Writes a plan in the fixed numbering.
+pub fn renumber(plan: &[u8], out: &mut [u8]) -> u32 {
+    // SAFETY: as for `rewrite`.
+    unsafe { raw::vulcedar_renumber(plan.as_ptr(), plan.len(), out.as_mut_ptr(), out.len()) }
+}
+
+/// Writes the depth form of a plan.
+pub fn to_depths(plan: &[u8], out: &mut [u8]) -> u32 {
+    // SAFETY: as for `rewrite`.
+    unsafe { raw::vulcedar_to_depths(plan.as_ptr(), plan.len(), out.as_mut_ptr(), out.len()) }
+}
+
+/// Writes the plan of a depth form.
+pub fn from_depths(depths: &[u8], out: &mut [u8]) -> u32 {
+    // SAFETY: as for `rewrite`.
+    unsafe { raw::vulcedar_from_depths(depths.as_ptr(), depths.len(), out.as_mut_ptr(), out.len()) }
+}
+
 /// Checks a plan and writes every node's depth.
 pub fn check_depths(plan: &[u8], depths: &mut [u8]) -> u32 {
     // SAFETY: as for `rewrite`.

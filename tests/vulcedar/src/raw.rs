@@ -8,6 +8,17 @@ unsafe extern "C" {
 
     pub fn vulcedar_rewrite(plan: *const u8, plan_length: usize, out: *mut u8, out_length: usize) -> u32;
 
+    pub fn vulcedar_renumber(plan: *const u8, plan_length: usize, out: *mut u8, out_length: usize) -> u32;
+
+    pub fn vulcedar_to_depths(plan: *const u8, plan_length: usize, out: *mut u8, out_length: usize) -> u32;
+
+    pub fn vulcedar_from_depths(
+        depths: *const u8,
+        depths_length: usize,
+        out: *mut u8,
+        out_length: usize,
+    ) -> u32;
+
     pub fn vulcedar_check_depths(
         plan: *const u8,
         plan_length: usize,

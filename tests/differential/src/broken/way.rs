@@ -91,7 +91,7 @@ fn search(mistake: Mistake, plan: &[u8], target: Target) -> Option<Vec<u8>> {
     let mut search = Search::new(checked, target);
     let mut list = vec![0; plan.len() / 2];
     let order = match mistake {
-        Mistake::SubtreesInTurn => subtree(&tree, 0),
+        Mistake::SubtreesInTurn => tree.subtree(0),
         Mistake::LastNodeFirst => (0..list.len()).rev().collect(),
         _ => (0..list.len()).collect(),
     };
@@ -124,12 +124,6 @@ fn bytes(mistake: Mistake, tree: &Tree, node: usize) -> Vec<u8> {
         _ => {}
     }
     bytes
-}
-
-/// A node and all below it, each child's subtree before the next child.
-fn subtree(tree: &Tree, node: usize) -> Vec<usize> {
-    let below = tree.children[node].iter().flat_map(|&child| subtree(tree, child));
-    std::iter::once(node).chain(below).collect()
 }
 
 /// The smaller of two lists, if there are any.

@@ -222,3 +222,24 @@ impl Numbers {
         (0..length).map(|_| self.below(256) as u8).collect()
     }
 }
+
+/// A plan of any shape: each node below any other before it.
+pub fn any_plan(numbers: &mut Numbers, nodes: usize) -> Vec<u8> {
+    loop {
+        let parents: Vec<u8> =
+            (0..nodes).map(|node| if node == 0 { 0xff } else { numbers.below(node as u32) as u8 }).collect();
+        let kind = |node: usize, numbers: &mut Numbers| match parents[1..]
+            .iter()
+            .filter(|&&parent| usize::from(parent) == node)
+            .count()
+        {
+            0 => 1,
+            2 => [2, 3, 4, 5, 5, 6, 7, 8][numbers.below(8) as usize],
+            _ => [2, 3, 4, 5, 5, 6, 8][numbers.below(7) as usize],
+        };
+        let plan: Vec<u8> = (0..nodes).flat_map(|node| [kind(node, numbers), parents[node]]).collect();
+        if exported::check(&plan) == 0 {
+            return plan;
+        }
+    }
+}
