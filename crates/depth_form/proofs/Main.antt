@@ -14,7 +14,7 @@ use Rattle.plan.proofs.Main.{check-exact}
 use Rattle.trees.specs.Numbering.{inPreorder}
 use Rattle.trees.proofs.AboveLaws.{preorder-told}
 use Rattle.depth_form.specs.Form.{depthForm, formPlan, levelOk, formNumber}
-use Rattle.depth_form.specs.Claim.{DepthsThere, DepthsBack, FormAsPlan}
+use Rattle.depth_form.specs.Claim.{DepthsThere, DepthsBack, FormExact, FormAsPlan}
 use Rattle.depth_form.proofs.LastLaws.{levels-told, levels-by}
 use Rattle.depth_form.proofs.ThereLaws.{form-length, form-size, form-levels, form-back}
 use Rattle.depth_form.proofs.BackLaws.{plan-long, plan-length-ok, plan-kinds-ok, plan-preorder, plan-again, plan-parents-ok}
@@ -57,3 +57,9 @@ depths-back d h =
       long = plan-long d ∙ sym (l .even);
       again = plan-again d l s;
     }
+
+pub form-exact : FormExact
+form-exact d = (
+  λ h. let b = depths-back d h in (formPlan d, b .accepted, b .ordered, b .again),
+  λ s. sym (ap formNumber (s .3)) ∙ depths-there (s .0) (s .1) (s .2) .accepted,
+)

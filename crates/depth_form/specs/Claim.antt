@@ -2,6 +2,7 @@
 use mathlib.Core.Path.{_≡_}
 use mathlib.Core.Bool.{true}
 use mathlib.Core.List.{List}
+use mathlib.Core.Logic.{_↔_}
 use Prim.Native.Nat.{ℕ}
 use lib.ListN.{length}
 use Rattle.plan.specs.Check.{lengthOk, kindOk, atAll, checkNumber, Accepted}
@@ -28,6 +29,10 @@ pub record Back (d : List ℕ) : Type 0 where
 -- MAIN CLAIM (R9), from forms to plans: it holds of every depth form that is accepted.
 abbrev pub DepthsBack : Type 0
 DepthsBack = (d : List ℕ) → formNumber d ≡ 0 → Back d
+
+-- CLAIM (R9). The depth forms that are accepted are those of the accepted plans in the fixed numbering, and no others.
+abbrev pub FormExact : Type 0
+FormExact = (d : List ℕ) → (formNumber d ≡ 0) ↔ ((p : List ℕ) × Accepted p × (inPreorder p ≡ true) × (depthForm p ≡ d))
 
 -- CLAIM (R8). Behind 17, the number of a form is its plan's: 4, 5 or 6 where the plan is refused so, and never 3.
 abbrev pub FormAsPlan : Type 0

@@ -16,7 +16,7 @@ use Rattle.plan.specs.Plan.{Kind, isKind, xor, size, kind, children}
 use Rattle.plan.specs.Check.{Accepted}
 use Rattle.plan.specs.Under.{Under, self}
 use Rattle.plan.proofs.PlanLaws.{rising-children}
-use Rattle.plan.proofs.AcceptedLaws.{accepted-ordered, child-between}
+use Rattle.plan.proofs.AcceptedLaws.{child-between}
 use Rattle.pass.specs.Pass.{Outcome, Tally, goes, goodMark, childMark, numberOf, Settled, Walked, childSettled, meetBy, meet, walk, unwalked, close, settleIf, settleBy, settle}
 use Rattle.pass_nodes.specs.Nodes.{counted, tallied, endAt, nextMark, markAmong, gives}
 use Rattle.plan.proofs.UnderLaws.{under-trans, under-child, child-under, under-low, under-below, apart, through}
@@ -102,7 +102,7 @@ module _ (p : List ℕ) (ok : Accepted p) (a : List ℕ) where
       deep : (u : ℕ) → u < size p → Under p c u → Local (set n c x) u
       deep u b un d i =
           let r = child-between p ok u i in
-          let low = under-low p (accepted-ordered p ok) c u b un in
+          let low = under-low p ok c u b un in
           let this : getD (set n c x) d 0 ≡ getD n d 0 = getD-set-other n c d x 0 (λ e. omega arith) in
           cases (decided (eqb c u))
           (λ e. let q = eqb-true c u e in
@@ -186,7 +186,7 @@ module _ (p : List ℕ) (ok : Accepted p) (a : List ℕ) where
       let w = went v (λ c n. settle p a f c n) 0 (children p v) (unwalked m) (rising-children p v) (λ c i. i)
       (λ c i n. let b = child-between p ok v i in settle-end p ok a f c n (omega arith) (b .1))
       (λ c i n e′ bl s′. let b = child-between p ok v i in settle-wrote f c n (omega arith) (b .1) e′ bl s′) e
-      (λ c i u b un. let r = child-between p ok v i in let low = under-low p (accepted-ordered p ok) c u b un in blank u b (under-child p v c u i un) (λ z. omega arith)) (q .sound) in
+      (λ c i u b un. let r = child-between p ok v i in let low = under-low p ok c u b un in blank u b (under-child p v c u i un) (λ z. omega arith)) (q .sound) in
       rw (q .answer) (record {
         long = w .long;
         own = w .own;

@@ -38,17 +38,20 @@ pub under-below : (p : List ℕ) (v w : ℕ) → (v ≡ w → ⊥) → Under p v
 under-below p v w ne (self e) = absurd (ne e)
 under-below p v w ne (up l b) = (l, b)
 
-pub under-low : (p : List ℕ) → Ordered p → (v w : ℕ) → w < size p → Under p v w → v ≤ w
-under-low p ordered v w l (self e) = omega arith
-under-low p ordered v w l (up z b) = let lt = ordered .below w z l in let r = under-low p ordered v (parent p w) (omega arith) b in omega arith
+pub ordered-low : (p : List ℕ) → Ordered p → (v w : ℕ) → w < size p → Under p v w → v ≤ w
+ordered-low p ordered v w l (self e) = omega arith
+ordered-low p ordered v w l (up z b) = let lt = ordered .below w z l in let r = ordered-low p ordered v (parent p w) (omega arith) b in omega arith
 
 module _ (p : List ℕ) (ok : Accepted p) where
+  pub under-low : (v w : ℕ) → w < size p → Under p v w → v ≤ w
+  under-low = ordered-low p (accepted-ordered p ok)
+
   beside : (v c d : ℕ) → In c (children p v) → In d (children p v) → Under p c d → c ≡ d
   beside v c d i j (self e) = e
   beside v c d i j (up z b) =
       let q = child-of p v j .of in
       let r = child-between p ok v i in
-      let low = under-low p (accepted-ordered p ok) c (parent p d) (omega arith) b in
+      let low = under-low c (parent p d) (omega arith) b in
       absurd (omega arith)
 
   pub apart : (v c d : ℕ) → In c (children p v) → In d (children p v) → (c ≡ d → ⊥) → (w : ℕ) → Under p c w → Under p d w → ⊥
@@ -59,7 +62,7 @@ module _ (p : List ℕ) (ok : Accepted p) where
   through v w l h = step v w l (up (h .0) (h .1)) (λ e. low (h .0) (h .1) e)
     where
       low : 0 < w → Under p v (parent p w) → v ≡ w → ⊥
-      low z b e = let lt = ok .below w z l in let r = under-low p (accepted-ordered p ok) v (parent p w) (omega arith) b in omega arith
+      low z b e = let lt = ok .below w z l in let r = under-low v (parent p w) (omega arith) b in omega arith
 
       step : (v w : ℕ) → w < size p → Under p v w → (v ≡ w → ⊥) → (d : ℕ) × In d (children p v) × Under p d w
       step v w l (self e) ne = absurd (ne e)

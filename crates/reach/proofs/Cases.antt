@@ -14,7 +14,6 @@ use Rattle.lists.proofs.Logic.{cases}
 use Rattle.plan.specs.Plan.{task, serial, contingency, kindNumber, isKind, kindOf, size, kindByte, kind, parent, childrenBelow, children, childCount, depthWithin, depth}
 use Rattle.plan.specs.Check.{lengthOk, kindOk, parentOk, underBlock, fits, countOk, depthOk, atAll, checkNumber, fitNumber}
 use Rattle.plan.specs.Under.{Under, self, up}
-use Rattle.plan.proofs.AcceptedLaws.{accepted-ordered}
 use Rattle.plan.proofs.UnderLaws.{under-low}
 use Rattle.plan.proofs.Main.{check-exact}
 use Rattle.pass.specs.Pass.{PassResult, passResult, goesBy, goes, oneOrTwo, badAnswer, badPick, closes, goodMark, childMark, skip, note, ending, endOf, nothing, unwalked, childSettled, meetBy, meet, walk, close, settleIf, settleBy, settle, numberOf, rootMark, passOf, pass, passNumber}
@@ -304,7 +303,7 @@ spared-before p t w ok l e pos before =
     let j = ltb-true 0 w pos in
     let k = ltb-true w t before in
     spared p t w e (λ x. cases (above-child p w t e x) (λ q. omega arith) (λ q. omega arith))
-    (λ s b y. let low = under-low p (accepted-ordered p (check-exact p .0 ok)) s w (omega arith) y in omega (arith, b .later))
+    (λ s b y. let low = under-low p (check-exact p .0 ok) s w (omega arith) y in omega (arith, b .later))
 
 -- siblings below a block of another kind
 spared-pair : (k : ℕ) → eqb (kindNumber (kind (pair k) 0)) 2 ≡ false → eqb (kindNumber (kind (pair k) 0)) 6 ≡ false → InReach (pair k) 1 2 → ⊥

@@ -16,7 +16,7 @@ use Rattle.plan.specs.Plan.{task, xor, kindNumber, size, kind, parent, children
 use Rattle.plan.specs.Check.{Accepted}
 use Rattle.plan.specs.Under.{Under, self, Below}
 use Rattle.plan.proofs.PlanLaws.{child-of, rising-children}
-use Rattle.plan.proofs.AcceptedLaws.{accepted-ordered, child-between, parent-child}
+use Rattle.plan.proofs.AcceptedLaws.{child-between, parent-child}
 use Rattle.plan.proofs.UnderLaws.{under-low, under-trans, child-under, under-below, apart, through, under-root, under?}
 use Rattle.pass.specs.Pass.{works, breaks, nothing, numberOf, pass}
 use Rattle.pass_nodes.specs.Nodes.{tallied, endBy, endAt, markAmong, passMark, Read}
@@ -167,7 +167,7 @@ module _ (p : List ℕ) (ok : Accepted p) (a b : List ℕ) (t : ℕ) (h : OneTas
   -- a node in whose subtree the task is ends alike
   module _ (u : ℕ) (x : Under p u t) where
     low : u < size p
-    low = let l = under-low p (accepted-ordered p ok) u t (h .within) x in omega (arith, h .within)
+    low = let l = under-low p ok u t (h .within) x in omega (arith, h .within)
 
     beside-alike : endAt p a u ≡ endAt p b u → (w : ℕ) → w < size p → (Below p u w → ⊥) → passMark p a w ≡ passMark p b w
     beside-alike e = same-elsewhere p ok a b u (λ w s n. h .same w s (λ q. n (subst (Under p u) (sym q) x))) e .1 (h .first)
@@ -181,13 +181,13 @@ module _ (p : List ℕ) (ok : Accepted p) (a b : List ℕ) (t : ℕ) (h : OneTas
 
     not-below : (w : ℕ) → Under p w u → Below p u w → ⊥
     not-below w y z =
-        let l = under-low p (accepted-ordered p ok) w u low y in
+        let l = under-low p ok w u low y in
         let d = ok .below w (z .0) (omega (arith, low)) in
-        let k = under-low p (accepted-ordered p ok) u (parent p w) (omega (arith, low)) (z .1) in
+        let k = under-low p ok u (parent p w) (omega (arith, low)) (z .1) in
         omega arith
 
     above-same : passMark p a u ≡ passMark p b u → (w : ℕ) → Under p w u → passMark p a w ≡ passMark p b w
-    above-same e w y = let l = under-low p (accepted-ordered p ok) w u low y in outside e w (omega (arith, low)) (not-below w y)
+    above-same e w y = let l = under-low p ok w u low y in outside e w (omega (arith, low)) (not-below w y)
 
     xors : kind p u ≡ xor → passMark p a u ≡ passMark p b u
     xors k = cases met

@@ -15,6 +15,10 @@ use Rattle.event.specs.Site.{Layout, own}
 use Rattle.event.specs.Valid.{invalid}
 use Rattle.checker.specs.Depths.{Checked, checked, depthsNumber, depthsOf}
 use Rattle.rewrite.specs.Rewrite.{rewritten, Rewrote, rewrote, rewriteNumber, rewriteOf}
+use Rattle.trees.specs.Numbering.{renumbered}
+use Rattle.trees.specs.Renumber.{Converted, converted, renumberNumber, renumberOf}
+use Rattle.depth_form.specs.Form.{depthForm, formPlan}
+use Rattle.depth_form.specs.Calls.{toDepthsNumber, toDepthsOf, fromDepthsNumber, fromDepthsOf}
 use Rattle.guard.specs.Guard.{guard}
 use Rattle.guard.specs.Rule.{ruleByte}
 use Rattle.guard.specs.Bytes.{encode}
@@ -49,6 +53,23 @@ pub rewrite-leaves : (p b : List ℕ) → (rewriteOf p b .number ≡ 0 → ⊥) 
 unfolding rewriteOf
 rewrite-leaves p b =
     tested (λ (r : Rewrote). r .number) (λ r. r .out ≡ b) (rewriteNumber p b) (rewrote (rewriteNumber p b) b) (rewrote 0 (rewritten p)) refl (λ e. refl)
+
+-- a number, and a new form where it is 0
+converted-leaves : (b : List ℕ) (n : ℕ) (new : List ℕ) →
+    ((cond (not (eqb n 0)) (converted n b) (converted 0 new)) .number ≡ 0 → ⊥) → (cond (not (eqb n 0)) (converted n b) (converted 0 new)) .out ≡ b
+converted-leaves b n new = tested (λ (r : Converted). r .number) (λ r. r .out ≡ b) n (converted n b) (converted 0 new) refl (λ e. refl)
+
+pub renumber-leaves : (p b : List ℕ) → (renumberOf p b .number ≡ 0 → ⊥) → renumberOf p b .out ≡ b
+unfolding renumberOf
+renumber-leaves p b = converted-leaves b (renumberNumber p b) (renumbered p)
+
+pub to-depths-leaves : (p b : List ℕ) → (toDepthsOf p b .number ≡ 0 → ⊥) → toDepthsOf p b .out ≡ b
+unfolding toDepthsOf
+to-depths-leaves p b = converted-leaves b (toDepthsNumber p b) (depthForm p)
+
+pub from-depths-leaves : (d b : List ℕ) → (fromDepthsOf d b .number ≡ 0 → ⊥) → fromDepthsOf d b .out ≡ b
+unfolding fromDepthsOf
+from-depths-leaves d b = converted-leaves b (fromDepthsNumber d b) (formPlan d)
 
 pub depths-leave : (p d : List ℕ) → (depthsOf p d .number ≡ 0 → ⊥) → depthsOf p d .depths ≡ d
 unfolding depthsOf

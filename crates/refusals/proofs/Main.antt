@@ -10,10 +10,11 @@ use Rattle.site.specs.Step.{siteAt}
 use Rattle.job.specs.Simulation.{stepFrom}
 use Rattle.simulation.specs.Run.{simulateOf}
 use Rattle.simulation.proofs.OwnLaws.{own-laid}
+use Rattle.depth_form.proofs.Main.{form-exact}
 use Rattle.desks.proofs.Main.{desk-check-exact}
 use Rattle.refusals.specs.Claim.{RefusalsLeave, AcceptedPass, Demand1}
-use Rattle.refusals.proofs.Leaves.{rewrite-leaves, depths-leave, guard-leaves, step-left, hear-leaves, simulate-leaves, central-leaves, pass-leaves, impact-leaves, way-leaves, pass-record-leaves, record-leaves, run-leaves, text-leaves, printing-leaves, keep-left, undo-left}
-use Rattle.refusals.proofs.Passes.{common-right, rewrite-passes, depths-pass, guard-passes, step-later, hear-later, central-later, pass-passes, impact-later, way-later, pass-record-passes, record-passes, run-passes}
+use Rattle.refusals.proofs.Leaves.{rewrite-leaves, renumber-leaves, to-depths-leaves, from-depths-leaves, depths-leave, guard-leaves, step-left, hear-leaves, simulate-leaves, central-leaves, pass-leaves, impact-leaves, way-leaves, pass-record-leaves, record-leaves, run-leaves, text-leaves, printing-leaves, keep-left, undo-left}
+use Rattle.refusals.proofs.Passes.{common-right, rewrite-passes, from-depths-passes, renumber-passes, to-depths-passes, depths-pass, guard-passes, step-later, hear-later, central-later, pass-passes, impact-later, way-later, pass-record-passes, record-passes, run-passes}
 use Rattle.refusals.proofs.Simulated.{simulate-later}
 use Rattle.refusals.proofs.Journal.{keep-later, undo-later}
 use Rattle.refusals.proofs.Points.{name-leaves, name-later, undo-leaves, back-leaves, point-undo-later, point-back-later}
@@ -22,6 +23,9 @@ use Rattle.refusals.proofs.Desks.{desk-step-leaves, desk-simulate-leave
 refusals-leave : RefusalsLeave
 refusals-leave = record {
   rewrite = rewrite-leaves;
+  renumber = renumber-leaves;
+  to-depths = to-depths-leaves;
+  from-depths = from-depths-leaves;
   check-depths = depths-leave;
   guarded = λ p code node b. guard-leaves b p code node;
   step = λ p code node row. step-left p (siteAt p code node) code node row;
@@ -56,6 +60,8 @@ accepted-pass : (p : List ℕ) → Accepted p → AcceptedPass p
 unfolding own simulateOf
 accepted-pass p ok = record {
   rewrite = rewrite-passes p ok;
+  renumber = renumber-passes p ok;
+  to-depths = to-depths-passes p ok;
   check-depths = depths-pass p ok;
   guarded = guard-passes p ok;
   step = λ code node row long. step-later p ok code node row long (siteAt p code node);
@@ -80,6 +86,8 @@ demand-1 = record {
   exact = check-exact;
   accepted = accepted-pass;
   point-name = name-later;
+  form-exact = form-exact;
+  from-depths = from-depths-passes;
   desk-exact = desk-check-exact;
   desk-accepted = desk-accepted-pass;
   refused = refusals-leave;

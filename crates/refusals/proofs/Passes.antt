@@ -1,6 +1,6 @@
 -- An accepted plan with right lengths passes the tests 1 to 7. Assumes nothing.
 use mathlib.Core.Path.{_≡_, refl, sym}
-use mathlib.Core.Bool.{Bool, true, cond, not, _&&_}
+use mathlib.Core.Bool.{Bool, true, false, cond, not, _&&_}
 use mathlib.Core.List.{List}
 use mathlib.Core.Option.{Option, none, some}
 use Prim.Native.Nat.{ℕ, _*_, _/_, _%_, _≤_}
@@ -11,12 +11,16 @@ use Rattle.lists.specs.Seq.{allBelow}
 use Rattle.lists.proofs.Logic.{cases, decided, and-join}
 use Rattle.plan.specs.Plan.{task, kind, size, isKind}
 use Rattle.plan.specs.Check.{Accepted, fitNumber}
-use Rattle.plan.proofs.Main.{fit-exact}
+use Rattle.plan.proofs.Main.{check-exact, fit-exact}
 use Rattle.event.specs.Event.{eventOf, known, applies}
 use Rattle.event.specs.Site.{Layout, own}
 use Rattle.event.specs.Valid.{eventFault, invalid}
 use Rattle.checker.specs.Depths.{depthsNumber, depthsOf}
 use Rattle.rewrite.specs.Rewrite.{rewriteNumber, rewriteOf}
+use Rattle.trees.specs.Numbering.{inPreorder}
+use Rattle.trees.specs.Renumber.{converted, renumberNumber, renumberOf}
+use Rattle.depth_form.specs.Form.{depthForm, formNumber}
+use Rattle.depth_form.specs.Calls.{toDepthsNumber, toDepthsOf, fromDepthsNumber, fromDepthsOf}
 use Rattle.guard.specs.Guard.{guard, holds, barred}
 use Rattle.guard.specs.Rule.{ruleByte}
 use Rattle.guard.specs.Bytes.{encode}
@@ -56,6 +60,10 @@ fault-later p sited code node =
     choice Later (not (known p code node && sited)) 8 (cond (not (applies p (eventOf code node))) 9 0) (λ e. later 8 refl)
     (λ e. choice Later (not (applies p (eventOf code node))) 9 0 (λ e. later 9 refl) (λ e. none-later))
 
+pub from-depths-passes : (d b : List ℕ) → formNumber d ≡ 0 → length b ≡ length d → fromDepthsOf d b .number ≡ 0
+unfolding fromDepthsOf fromDepthsNumber
+from-depths-passes d b z e = rw (z, eq-eqb (length b) (length d) e)
+
 module _ (p : List ℕ) (ok : Accepted p) where
   fit : (right : Bool) → right ≡ true → fitNumber p right ≡ 0
   fit right e = fit-exact p right .none .1 (ok, e)
@@ -66,6 +74,18 @@ module _ (p : List ℕ) (ok : Accepted p) where
   pub rewrite-passes : (b : List ℕ) → length b ≡ length p → rewriteOf p b .number ≡ 0
   unfolding rewriteOf rewriteNumber
   rewrite-passes b e = rw (fit (eqb (length b) (length p)) (eq-eqb (length b) (length p) e))
+
+  pub renumber-passes : (b : List ℕ) → length b ≡ length p → renumberOf p b .number ≡ 0
+  unfolding renumberOf renumberNumber
+  renumber-passes b e = rw (fit (eqb (length b) (length p)) (eq-eqb (length b) (length p) e))
+
+  pub to-depths-passes : (b : List ℕ) → length b ≡ length p → toDepthsOf p b .number ≡ cond (inPreorder p) 0 18
+  unfolding toDepthsOf toDepthsNumber
+  to-depths-passes b e = rw (check-exact p .1 ok, eq-eqb (length b) (length p) e) (go (inPreorder p))
+    where
+      go : (t : Bool) → (cond (not (eqb (cond (not t) 18 0) 0)) (converted (cond (not t) 18 0) b) (converted 0 (depthForm p))) .number ≡ cond t 0 18
+      go true = refl
+      go false = refl
 
   pub depths-pass : (d : List ℕ) → length d ≡ size p → depthsOf p d .number ≡ 0
   unfolding depthsOf depthsNumber

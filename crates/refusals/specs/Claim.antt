@@ -1,7 +1,8 @@
--- THE CLAIM OF DEMAND 1 (rules A, H and N2): which plans are accepted, with desks or without; that an accepted plan with right lengths is not refused
+-- THE CLAIM OF DEMAND 1 (rules A, H, N2 and R9): which plans are accepted, with desks or without, and which depth forms; that an accepted plan with right lengths is not refused
 -- with 1 to 7, nor with 22; and that a refused call leaves every lent byte. It is about the definitions that the contracts of the C functions cite.
 -- Definitions only.
 use mathlib.Core.Path.{_≡_}
+use mathlib.Core.Bool.{cond}
 use mathlib.Core.List.{List}
 use Prim.Native.Nat.{ℕ, _*_, _/_, _%_, _≤_, _<_}
 use lib.ListN.{length}
@@ -9,6 +10,11 @@ use Rattle.plan.specs.Plan.{size}
 use Rattle.plan.specs.Check.{Accepted, CheckExact}
 use Rattle.checker.specs.Depths.{depthsOf}
 use Rattle.rewrite.specs.Rewrite.{rewriteOf}
+use Rattle.trees.specs.Numbering.{inPreorder}
+use Rattle.trees.specs.Renumber.{renumberOf}
+use Rattle.depth_form.specs.Form.{formNumber}
+use Rattle.depth_form.specs.Calls.{toDepthsOf, fromDepthsOf}
+use Rattle.depth_form.specs.Claim.{FormExact}
 use Rattle.event.specs.Event.{eventOf}
 use Rattle.guard.specs.Guard.{guard}
 use Rattle.guard.specs.Bytes.{encode}
@@ -66,6 +72,12 @@ ruleNumber p code node m k = rulingNumber (ruleOf p code node m k .ruling)
 pub record RefusalsLeave : Type 0 where
   -- vulcedar_rewrite
   pub rewrite : (p b : List ℕ) → (rewriteOf p b .number ≡ 0 → ⊥) → rewriteOf p b .out ≡ b
+  -- vulcedar_renumber
+  pub renumber : (p b : List ℕ) → (renumberOf p b .number ≡ 0 → ⊥) → renumberOf p b .out ≡ b
+  -- vulcedar_to_depths
+  pub to-depths : (p b : List ℕ) → (toDepthsOf p b .number ≡ 0 → ⊥) → toDepthsOf p b .out ≡ b
+  -- vulcedar_from_depths
+  pub from-depths : (d b : List ℕ) → (fromDepthsOf d b .number ≡ 0 → ⊥) → fromDepthsOf d b .out ≡ b
   -- vulcedar_check_depths
   pub check-depths : (p d : List ℕ) → (depthsOf p d .number ≡ 0 → ⊥) → depthsOf p d .depths ≡ d
   -- vulcedar_guard
@@ -138,6 +150,10 @@ Later n = 0 < n → (7 < n) × (n ≡ 22 → ⊥)
 pub record AcceptedPass (p : List ℕ) : Type 0 where
   -- vulcedar_rewrite
   pub rewrite : (b : List ℕ) → length b ≡ length p → rewriteOf p b .number ≡ 0
+  -- vulcedar_renumber
+  pub renumber : (b : List ℕ) → length b ≡ length p → renumberOf p b .number ≡ 0
+  -- vulcedar_to_depths, which answers 18 for a plan that is not in the fixed numbering
+  pub to-depths : (b : List ℕ) → length b ≡ length p → toDepthsOf p b .number ≡ cond (inPreorder p) 0 18
   -- vulcedar_check_depths
   pub check-depths : (d : List ℕ) → length d ≡ size p → depthsOf p d .number ≡ 0
   -- vulcedar_guard
@@ -196,7 +212,7 @@ pub record DeskAcceptedPass (p : List ℕ) : Type 0 where
   -- vulcedar_desk_record_by, which answers the table's number: 0 or 21
   pub end-record-by : (tab st m c : List ℕ) → length st ≡ deskRows p * nodes p → length m ≡ nodes p → length c ≡ nodes p → deskRecordByInto p tab st m c .number ≡ tableNumber tab
 
--- A1 to A6, H0 to H7, N2, N6: DEMAND 1
+-- A1 to A6, H0 to H7, N2, N6, R9, R10: DEMAND 1
 pub record Demand1 : Type 0 where
   -- A1 to A6: the check passes every plan within the limits, and no other
   pub exact : CheckExact
@@ -204,6 +220,10 @@ pub record Demand1 : Type 0 where
   pub accepted : (p : List ℕ) → Accepted p → AcceptedPass p
   -- M2, M3: vulcedar_point_name, which takes no plan, with right points
   pub point-name : (name : List ℕ) (k : ℕ) (ns ps : List ℕ) → length name ≡ 8 → k < 18446744073709551615 → PointsRight ns ps k → Later (nameOf name k ns ps .number)
+  -- R9: vulcedar_from_depths, which takes no plan, accepts the depth forms of plans in the fixed numbering, and no others
+  pub form-exact : FormExact
+  -- R10: and passes them, with right lengths
+  pub from-depths : (d b : List ℕ) → formNumber d ≡ 0 → length b ≡ length d → fromDepthsOf d b .number ≡ 0
   -- N2: the check of plans with desks passes every one within the limits, and no other
   pub desk-exact : DeskCheckExact
   -- N6: and the calls on them

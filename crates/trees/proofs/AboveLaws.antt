@@ -13,7 +13,7 @@ use Rattle.plan.specs.Plan.{size, parent}
 use Rattle.plan.specs.Check.{Ordered}
 use Rattle.plan.specs.Under.{Under, self, up}
 use Rattle.plan.proofs.CheckLaws.{test-at, test-by}
-use Rattle.plan.proofs.UnderLaws.{under-trans, under-below, under-low}
+use Rattle.plan.proofs.UnderLaws.{under-trans, under-below, ordered-low}
 use Rattle.trees.specs.Numbering.{aboveWithin, isAbove, follows, inPreorder}
 use Rattle.trees.specs.Claim.{Together}
 
@@ -62,7 +62,7 @@ module _ (p : List ℕ) (ordered : Ordered p) where
   -- not behind u: only u itself
   pub above-end : (u w : ℕ) → w < size p → w ≤ u → isAbove p u w ≡ eqb w u
   above-end u w m l = same-bool _ _
-      (λ h. let k = under-low p ordered u w m (above-told p u w h) in eq-eqb w u (omega arith))
+      (λ h. let k = ordered-low p ordered u w m (above-told p u w h) in eq-eqb w u (omega arith))
       (λ h. above-by u w m (self (sym (eqb-true w u h))))
 
   pub preorder-told : inPreorder p ≡ true → Preorder p

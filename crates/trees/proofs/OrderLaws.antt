@@ -11,7 +11,7 @@ use Rattle.lists.proofs.Logic.{cases, decided}
 use Rattle.plan.specs.Plan.{size, kindByte, parent, children}
 use Rattle.plan.specs.Check.{Ordered}
 use Rattle.plan.specs.Under.{Under, self, up}
-use Rattle.plan.proofs.UnderLaws.{under-trans, under-below, under-low}
+use Rattle.plan.proofs.UnderLaws.{under-trans, under-below, ordered-low}
 use Rattle.links.specs.Links.{childrenFrom}
 use Rattle.links.proofs.LinkLaws.{from-all, from-end, from-yes, from-skip}
 use Rattle.trees.specs.Tree.{Forest, none, tree, treesOf, belowWithin, nodeCount}
@@ -48,7 +48,7 @@ module _ (p : List ℕ) (ordered : Ordered p) (order : Preorder p) where
       gone g =
           let b = under-below p v w (λ e. omega arith) g in
           let c = ordered .below w (b .0) m in
-          n (let low = under-low p ordered v (parent p w) (omega arith) (b .1) in let high = under-low p ordered (parent p w) v (omega arith) o in omega arith)
+          n (let low = ordered-low p ordered v (parent p w) (omega arith) (b .1) in let high = ordered-low p ordered (parent p w) v (omega arith) o in omega arith)
 
   below-none : (v w : ℕ) → w ≤ size p → (w ≡ size p) ⊎ ((0 < v) × Under p (parent p w) (parent p v)) → Below p v w none
   unfolding nodeCount

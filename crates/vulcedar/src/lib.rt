@@ -7,6 +7,8 @@ ghost use lib.ListN.{length, getD, set};
 ghost use Rattle.journal.specs.Journal.{noEntry};
 ghost use Rattle.plan.specs.Check.{checkNumber};
 ghost use Rattle.rewrite.specs.Rewrite.{rewriteOf};
+ghost use Rattle.trees.specs.Renumber.{renumberOf};
+ghost use Rattle.depth_form.specs.Calls.{toDepthsOf, fromDepthsOf};
 ghost use Rattle.checker.specs.Depths.{depthsOf};
 ghost use Rattle.guard.specs.Rule.{ruleAnswer};
 ghost use Rattle.writer.specs.Written.{writeOf};
@@ -63,7 +65,7 @@ fn of_verdict(v: site::Verdict) -> u32
 pub extern "C" fn vulcedar_version() -> u32
     ensures { λ r. ⌜ r ≡ version ⌝ }
 {
-    66816
+    67072
 }
 
 #[no_mangle]
@@ -79,6 +81,30 @@ pub extern "C" fn vulcedar_rewrite(plan: &[u8], out: &mut [u8]) -> u32
     ensures { λ r. ⌜ now (out .exit) ≡ rewriteOf (now (plan .entry)) (now (out .entry)) .out ⌝ }
 {
     packed(rewrite::rewrite(plan, out), 0)
+}
+
+#[no_mangle]
+pub extern "C" fn vulcedar_renumber(plan: &[u8], out: &mut [u8]) -> u32
+    ensures { λ r. ⌜ r ≡ result (renumberOf (now (plan .entry)) (now (out .entry)) .number) 0 0 ⌝ }
+    ensures { λ r. ⌜ now (out .exit) ≡ renumberOf (now (plan .entry)) (now (out .entry)) .out ⌝ }
+{
+    packed(convert::renumber(plan, out), 0)
+}
+
+#[no_mangle]
+pub extern "C" fn vulcedar_to_depths(plan: &[u8], out: &mut [u8]) -> u32
+    ensures { λ r. ⌜ r ≡ result (toDepthsOf (now (plan .entry)) (now (out .entry)) .number) 0 0 ⌝ }
+    ensures { λ r. ⌜ now (out .exit) ≡ toDepthsOf (now (plan .entry)) (now (out .entry)) .out ⌝ }
+{
+    packed(convert::to_depths(plan, out), 0)
+}
+
+#[no_mangle]
+pub extern "C" fn vulcedar_from_depths(depths: &[u8], out: &mut [u8]) -> u32
+    ensures { λ r. ⌜ r ≡ result (fromDepthsOf (now (depths .entry)) (now (out .entry)) .number) 0 0 ⌝ }
+    ensures { λ r. ⌜ now (out .exit) ≡ fromDepthsOf (now (depths .entry)) (now (out .entry)) .out ⌝ }
+{
+    packed(convert::from_depths(depths, out), 0)
 }
 
 #[no_mangle]
