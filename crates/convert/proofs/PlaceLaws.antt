@@ -122,6 +122,18 @@ module _ {p first next out b₀ : List ℕ} {v u n : ℕ} {b : List ℕ} {w c : 
       long = walk-long ∙ t .ready .long;
     }
 
+    -- a child without children is its own two bytes
+    walk-bare : getD first c 0 ≡ 0 → treesBelow p c ≡ none
+    unfolding treesOf
+    walk-bare z = trees-step p (accepted-ordered p (t .ready .accepted)) c (t .walk .child l .high) ∙ rw (led-all (t .ready .linked) c (t .walk .child l .high) ∙ led-none p c (getD first c 0) z)
+
+    pub walk-leaf : getD first c 0 ≡ 0 → (k : ℕ) → k ≡ kindByte p c → Placed p c n w b (withLine b w k n) (w + 1)
+    unfolding written nodeCount
+    walk-leaf z k e = record {
+      behind = rw (walk-bare z) (omega arith);
+      put = rw (walk-bare z, ← e, (let q : 2 * (w + 1) ≡ 2 * w + 2 = omega arith in q)) (put-two k n b (2 * w));
+    }
+
     pub walk-falls : size p - c < size p - v
     walk-falls =
         let k = t .walk .child l in

@@ -50,7 +50,8 @@ fn set_line(out: &mut [u8], v: usize, a: u8, b: u8)
     out[2 * v + 1] = b;
 }
 
-// Writes the tree of node v, whose parent is u, from the number n on, and answers the number behind it.
+// Writes the tree of node v, whose parent is u, from the number n on, and answers the number behind it. It calls itself only for children that
+// have children: most have none, and that saves most calls.
 fn place(
     plan: &[u8],
     first: &[u8; 160],
@@ -67,7 +68,12 @@ fn place(
     let mut w = n + 1;
     let mut c = plan::wide(first[v]);
     while c != 0 {
-        w = place(plan, first, next, out, c, n as u8, w);
+        if first[c] == 0 {
+            set_line(out, w, checker::kind_at(plan, c), n as u8);
+            w += 1;
+        } else {
+            w = place(plan, first, next, out, c, n as u8, w);
+        }
         c = plan::wide(next[c]);
     }
     w

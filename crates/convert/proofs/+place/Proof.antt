@@ -1,12 +1,13 @@
 -- What is left of the children says where the tree ends; the call of itself is on a higher node. Assumes nothing.
 use mathlib.Core.Path.{_≡_, _∙_, ap}
+use mathlib.Core.Logic.{⊎-elim}
 use Prim.Native.Nat.{ℕ, _-_, _<_}
 use native.Mathlib.Omega.{arith}
 use lib.ListN.{length}
 use Rattle.plan.specs.Plan.{size}
 use Rattle.links.specs.Links.{ledTo}
 use Rattle.convert.proofs.LineLaws.{withLine}
-use Rattle.convert.proofs.PlaceLaws.{place-small, place-node, place-room, Walking, walk-first, Turn, walk-long, walk-end, walk-within, walk-ready, walk-falls, walk-less, walk-turn}
+use Rattle.convert.proofs.PlaceLaws.{place-small, place-node, place-room, Walking, walk-first, Turn, walk-long, walk-end, walk-within, walk-ready, walk-leaf, walk-falls, walk-less, walk-turn}
 use borrow.Fn.Kinds.{In}
 use borrow.Fn.PlainCycle.{Measures, is, falls, and}
 use Rattle.convert.proofs.place.Reads as place
@@ -75,23 +76,43 @@ turn t c = record {
   walk = c .loop .inv;
 }
 
+element-copy-out-if1 : (t : ℕ) → lts.Need-element-copy-out-if1 (callees t) (here t) place.Post Inv μ
+element-copy-out-if1 t c = walk-within (turn t (c .before)) (c .loop-test .taken)
+
+kind-at-requires-2 : (t : ℕ) → lts.Need-kind-at-requires-2 (callees t) (here t) place.Post Inv μ
+kind-at-requires-2 t c κs = walk-ready (turn t (c .before .before .before .before)) (c .before .before .before .loop-test .taken) .node
+
+cast-set-line : (t : ℕ) → lts.Need-cast-set-line (callees t) (here t) place.Post Inv μ
+cast-set-line t c = omega (arith, place-small (c .before .before .before .before .before .before .before .before .before .before .before .before .before .before .before .pre .1))
+
+set-line-requires-2 : (t : ℕ) → lts.Need-set-line-requires-2 (callees t) (here t) place.Post Inv μ
+set-line-requires-2 t c κs = place-room (walk-ready (turn t (c .before .before .before .before .before)) (c .before .before .before .before .loop-test .taken))
+
+add-w-2 : (t : ℕ) → lts.Need-add-w-2 (callees t) (here t) place.Post Inv μ
+add-w-2 t c = omega (arith, place-small (walk-ready (turn t (c .before .before .before .before .before .before .before .before)) (c .before .before .before .before .before .before .before .loop-test .taken)))
+
 cast-place : (t : ℕ) → lts.Need-cast-place (callees t) (here t) place.Post Inv μ
-cast-place t c = omega (arith, place-small (c .before .before .before .before .before .before .before .before .before .before .before .before .pre .1))
+cast-place t c = omega (arith, place-small (c .before .before .before .before .before .before .before .before .before .before .before .before .before .before .pre .1))
 
 place-requires : (t : ℕ) → lts.Need-place-requires (callees t) (here t) place.Post Inv μ
-place-requires t c κs = (below-at (c .before .before .before .before .before .before .before .before .before .before .before .before .pre .0) (walk-falls (turn t (c .before .before)) (c .before .loop-test .taken)), walk-ready (turn t (c .before .before)) (c .before .loop-test .taken))
+place-requires t c κs = (below-at (c .before .before .before .before .before .before .before .before .before .before .before .before .before .before .pre .0) (walk-falls (turn t (c .before .before .before .before)) (c .before .before .before .loop-test .taken)), walk-ready (turn t (c .before .before .before .before)) (c .before .before .before .loop-test .taken))
 
 element-copy-out-wide-2 : (t : ℕ) → lts.Need-element-copy-out-wide-2 (callees t) (here t) place.Post Inv μ
-element-copy-out-wide-2 t c = walk-within (turn t (c .before .before .before .before .before)) (c .before .before .before .before .loop-test .taken)
+element-copy-out-wide-2 t c = walk-within (turn t (c .before .before .before)) (c .before .before .loop-test .taken)
 
 wide-requires-2 : (t : ℕ) → lts.Need-wide-requires-2 (callees t) (here t) place.Post Inv μ
 wide-requires-2 t c κs = tt
 
 loop-less : (t : ℕ) → lts.Need-loop-less (callees t) (here t) place.Post Inv μ
-loop-less t c = rw (c .wide2 .ensures) (walk-less (turn t (c .before .before .before .before .before .before .before)) (c .before .before .before .before .before .before .loop-test .taken))
+loop-less t c = rw (c .wide2 .ensures) (walk-less (turn t (c .before .before .before .before .before)) (c .before .before .before .before .loop-test .taken))
 
 loop-again : (t : ℕ) → lts.Need-loop-again (callees t) (here t) place.Post Inv μ
-loop-again t c = rw (c .wide2 .ensures) (walk-turn (turn t (c .before .before .before .before .before .before .before)) (c .before .before .before .before .before .before .loop-test .taken) _ _ (c .before .before .before .before .place .ensures))
+loop-again t c =
+    let l = c .before .before .before .before .loop-test .taken in
+    rw (c .wide2 .ensures) (walk-turn (turn t (c .before .before .before .before .before)) l _ _ (⊎-elim
+    (λ h. rw (h .6, h .3 .ensures, h .7) (walk-leaf (turn t (c .before .before .before .before .before)) l (h .0 .taken) _ (h .2 .ensures)))
+    (λ h. rw (h .5, h .6) (h .2 .ensures))
+    (c .before .before .if1 .came)))
 
 same-length : (t : ℕ) → lts.Need-same-length (callees t) (here t) place.Post Inv μ
 same-length t c = walk-long (turn t (c .before))
@@ -111,6 +132,11 @@ pub +place-spec : {M : Type 1} → statement M
     (element-copy-out-wide t)
     (wide-requires t)
     (loop-holds t)
+    (element-copy-out-if1 t)
+    (kind-at-requires-2 t)
+    (cast-set-line t)
+    (set-line-requires-2 t)
+    (add-w-2 t)
     (cast-place t)
     (place-requires t)
     (element-copy-out-wide-2 t)
