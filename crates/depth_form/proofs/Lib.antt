@@ -3,4 +3,5 @@ pub mod PairsLaws
 pub mod LastLaws
 pub mod ThereLaws
 pub mod BackLaws
+pub mod Cases
 pub mod Main

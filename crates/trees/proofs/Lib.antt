@@ -6,4 +6,5 @@ pub mod TreeLaws
 pub mod WrittenLaws
 pub mod SoundLaws
 pub mod RenumberLaws
+pub mod Cases
 pub mod Main
