@@ -39,6 +39,10 @@ mixed = 2 ∷ 255 ∷ 2 ∷ 0 ∷ 8 ∷ 0 ∷ 1 ∷ 2 ∷ 1 ∷ 1 ∷ 4 ∷ 2 �
 abbrev late : List ℕ
 late = 2 ∷ 255 ∷ 2 ∷ 0 ∷ 2 ∷ 1 ∷ 1 ∷ 0 ∷ 1 ∷ 2 ∷ []
 
+-- serial 0: serial 1 of serial 3 of task 5, and 2 of task 4
+abbrev deep : List ℕ
+deep = 2 ∷ 255 ∷ 2 ∷ 0 ∷ 3 ∷ 0 ∷ 2 ∷ 1 ∷ 1 ∷ 2 ∷ 1 ∷ 3 ∷ []
+
 abbrev leaf : Forest → Forest
 leaf t = tree 1 none t
 
@@ -59,6 +63,7 @@ trees =
     ∷ grown crossed (tree 6 (tree 3 (leaf none) (tree 2 (leaf none) none)) none)
     ∷ grown turned (tree 6 (tree 2 (leaf none) (tree 3 (leaf none) none)) none)
     ∷ grown mixed (tree 2 (tree 2 (leaf (leaf none)) (tree 8 (leaf (tree 4 (leaf none) none)) none)) none)
+    ∷ grown deep (tree 2 (tree 2 (tree 2 (leaf none) none) (tree 3 (leaf none) none)) none)
     ∷ grown late (tree 2 (tree 2 (tree 2 (leaf none) none) (leaf none)) none)
     ∷ []
 
@@ -85,6 +90,7 @@ numberings =
     ∷ numbered crossed false (6 ∷ 255 ∷ 3 ∷ 0 ∷ 1 ∷ 1 ∷ 2 ∷ 0 ∷ 1 ∷ 3 ∷ [])
     ∷ numbered turned false (6 ∷ 255 ∷ 2 ∷ 0 ∷ 1 ∷ 1 ∷ 3 ∷ 0 ∷ 1 ∷ 3 ∷ [])
     ∷ numbered mixed false (2 ∷ 255 ∷ 2 ∷ 0 ∷ 1 ∷ 1 ∷ 1 ∷ 1 ∷ 8 ∷ 0 ∷ 1 ∷ 4 ∷ 4 ∷ 4 ∷ 1 ∷ 6 ∷ [])
+    ∷ numbered deep false (2 ∷ 255 ∷ 2 ∷ 0 ∷ 2 ∷ 1 ∷ 1 ∷ 2 ∷ 3 ∷ 0 ∷ 1 ∷ 4 ∷ [])
     ∷ numbered late false (2 ∷ 255 ∷ 2 ∷ 0 ∷ 2 ∷ 1 ∷ 1 ∷ 2 ∷ 1 ∷ 0 ∷ [])
     ∷ numbered (2 ∷ 255 ∷ 2 ∷ 0 ∷ 2 ∷ 1 ∷ 1 ∷ 2 ∷ 1 ∷ 0 ∷ []) true (2 ∷ 255 ∷ 2 ∷ 0 ∷ 2 ∷ 1 ∷ 1 ∷ 2 ∷ 1 ∷ 0 ∷ [])
     ∷ []
