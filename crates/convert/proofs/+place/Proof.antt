@@ -50,7 +50,7 @@ abbrev μ : lts.MeasureT-loop
 μ plan first next out₀ v u n w₀ c₀ out w c = length (ledTo plan v c)
 
 kind-at-requires : (t : ℕ) → lts.Need-kind-at-requires (callees t) (here t) place.Post Inv μ
-kind-at-requires t c κs = c .before .before .before .pre .1 .node
+kind-at-requires t c κs = omega (arith, c .before .before .before .pre .1 .node)
 
 set-line-requires : (t : ℕ) → lts.Need-set-line-requires (callees t) (here t) place.Post Inv μ
 set-line-requires t c κs = place-room (c .before .before .before .before .pre .1)

@@ -44,7 +44,7 @@ add-d : tie.Need-add-d Inv-loop μ-loop
 add-d c = omega (arith, deep-low (turn c))
 
 slice-read-d : tie.Need-slice-read-d Inv-loop μ-loop
-slice-read-d c = deep-read (turn (c .before))
+slice-read-d c = omega (arith, deep-read (turn (c .before)))
 
 add-d-2 : tie.Need-add-d-2 Inv-loop μ-loop
 add-d-2 c = omega (arith, deep-small (turn (c .before)))

@@ -55,10 +55,10 @@ set-line-requires-2 : tie.Need-set-line-requires-2 Inv-loop μ-loop
 set-line-requires-2 c κs = form-turn-room (turn (c .before .before))
 
 cast-last : tie.Need-cast-last Inv-loop μ-loop
-cast-last c = omega (arith, form-small (turn (c .before .before .before .before .before)))
+cast-last c = let t = turn (c .before .before .before .before .before) in omega (arith, form-small t, t .right .long .few, c .before .before .before .before .before .before .before .before .before .before .before .before .before .node-count .ensures)
 
 array-write-last : tie.Need-array-write-last Inv-loop μ-loop
-array-write-last c = form-flat (turn (c .before .before .before .before .before))
+array-write-last c = omega (arith, form-flat (turn (c .before .before .before .before .before)))
 
 add-v : tie.Need-add-v Inv-loop μ-loop
 add-v c = search needs
