@@ -3,8 +3,10 @@ use mathlib.Core.Path.{_≡_, sym, _∙_, ap}
 use mathlib.Core.Bool.{true}
 use mathlib.Core.List.{List}
 use Prim.Native.Nat.{ℕ, _*_}
+use lib.Dec.{eqb}
 use lib.ListN.{length}
-use Rattle.lists.proofs.Logic.{test-passed}
+use borrow.Author.Tests.{eqb-true, eq-eqb}
+use Rattle.lists.proofs.Logic.{test-passed, number-passed}
 use Rattle.plan.specs.Plan.{size}
 use Rattle.plan.specs.Check.{lengthOk, kindOk, atAll, checkNumber}
 use Rattle.plan.proofs.AcceptedLaws.{accepted-ordered}
@@ -13,8 +15,10 @@ use Rattle.plan.proofs.Exact.{passes}
 use Rattle.plan.proofs.Main.{check-exact}
 use Rattle.trees.specs.Numbering.{inPreorder}
 use Rattle.trees.proofs.AboveLaws.{preorder-told}
+use Rattle.trees.proofs.CallLaws.{passed-just}
 use Rattle.depth_form.specs.Form.{depthForm, formPlan, levelOk, formNumber}
-use Rattle.depth_form.specs.Claim.{DepthsThere, DepthsBack, FormExact, FormAsPlan}
+use Rattle.depth_form.specs.Calls.{toDepthsNumber, toDepthsOf, fromDepthsNumber, fromDepthsOf}
+use Rattle.depth_form.specs.Claim.{DepthsThere, DepthsBack, FormAsPlan, FormExact, ToDepthsCall, FromDepthsCall}
 use Rattle.depth_form.proofs.LastLaws.{levels-told, levels-by}
 use Rattle.depth_form.proofs.ThereLaws.{form-length, form-size, form-levels, form-back}
 use Rattle.depth_form.proofs.BackLaws.{plan-long, plan-length-ok, plan-kinds-ok, plan-preorder, plan-again, plan-parents-ok}
@@ -60,6 +64,31 @@ depths-back d h =
 
 pub form-exact : FormExact
 form-exact d = (
-  λ h. let b = depths-back d h in (formPlan d, b .accepted, b .ordered, b .again),
-  λ s. sym (ap formNumber (s .3)) ∙ depths-there (s .0) (s .1) (s .2) .accepted,
+  λ h. let b = depths-back d h in (formPlan d, record { accepted = b .accepted; ordered = b .ordered; form = b .again }),
+  λ s. let m = s .1 in sym (ap formNumber (m .form)) ∙ depths-there (s .0) (m .accepted) (m .ordered) .accepted,
+)
+
+pub to-depths-call : ToDepthsCall
+unfolding toDepthsOf toDepthsNumber
+to-depths-call p out d = (
+  λ h. let r = (passed-just _ out (depthForm p) d) .0 h in
+      let k = number-passed (checkNumber p) _ (r .0) in
+      let o = test-passed (inPreorder p) 17 _ (k .1) in
+      let l = test-passed (eqb (length out) (length p)) 6 0 (o .1) in
+      (record { accepted = check-exact p .0 (k .0); ordered = o .0; form = r .1 }, eqb-true (length out) (length p) (l .0)),
+  λ h. let m = h .0 in rw (check-exact p .1 (m .accepted), m .ordered, eq-eqb (length out) (length p) (h .1), m .form),
+)
+
+pub from-depths-call : FromDepthsCall
+unfolding fromDepthsOf fromDepthsNumber
+from-depths-call d out p = (
+  λ h. let r = (passed-just _ out (formPlan d) p) .0 h in
+      let k = number-passed (formNumber d) _ (r .0) in
+      let l = test-passed (eqb (length out) (length d)) 6 0 (k .1) in
+      let b = depths-back d (k .0) in
+      (rw (← r .1) (record { accepted = b .accepted; ordered = b .ordered; form = b .again }), eqb-true (length out) (length d) (l .0)),
+  λ h. let m = h .0 in
+      let t = depths-there p (m .accepted) (m .ordered) in
+      let z : formNumber d ≡ 0 = sym (ap formNumber (m .form)) ∙ t .accepted in
+      rw (z, eq-eqb (length out) (length d) (h .1), ← m .form, t .back),
 )

@@ -6,5 +6,6 @@ pub mod TreeLaws
 pub mod WrittenLaws
 pub mod SoundLaws
 pub mod RenumberLaws
+pub mod CallLaws
 pub mod Cases
 pub mod Main

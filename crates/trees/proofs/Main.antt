@@ -3,9 +3,10 @@ use mathlib.Core.Path.{sym, _∙_, ap}
 use Rattle.plan.proofs.AcceptedLaws.{accepted-ordered}
 use Rattle.trees.specs.Tree.{treeOf}
 use Rattle.trees.specs.Numbering.{renumbered, inPreorder}
-use Rattle.trees.specs.Claim.{TreeSteps, RenumberRight}
+use Rattle.trees.specs.Claim.{TreeSteps, RenumberRight, RenumberCall}
 use Rattle.trees.proofs.AboveLaws.{preorder-exact}
 use Rattle.trees.proofs.TreeLaws.{trees-step, count-all}
+use Rattle.trees.proofs.CallLaws.{renumber-just}
 use Rattle.trees.proofs.RenumberLaws.{new-accepted, new-length, new-same, new-preorder, new-fixed, same-bytes}
 
 pub tree-steps : TreeSteps
@@ -23,3 +24,6 @@ renumber-right p ok = record {
   stays = (λ e. sym (ap inPreorder e) ∙ new-preorder p ok, new-fixed p ok);
   tells = λ q fine. (λ e. sym (new-same p ok) ∙ ap treeOf e ∙ new-same q fine, same-bytes p q);
 }
+
+pub renumber-call : RenumberCall
+renumber-call = renumber-just renumber-right

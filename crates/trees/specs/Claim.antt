@@ -1,4 +1,4 @@
--- THE CLAIMS of rules R1 to R4. Definitions only.
+-- THE CLAIMS of rules R1 to R5. Definitions only.
 use mathlib.Core.Path.{_≡_}
 use mathlib.Core.Bool.{true}
 use mathlib.Core.List.{List}
@@ -10,6 +10,7 @@ use Rattle.plan.specs.Check.{Ordered, Accepted}
 use Rattle.plan.specs.Under.{Under}
 use Rattle.trees.specs.Tree.{treesOf, treesBelow, treeOf, SameTree, nodeCount}
 use Rattle.trees.specs.Numbering.{renumbered, inPreorder}
+use Rattle.trees.specs.Renumber.{converted, renumberOf}
 
 -- CLAIM (R1). What is below a node is its children's trees, in rising number; and the tree has each node of the plan once.
 abbrev pub TreeSteps : Type 0
@@ -41,3 +42,15 @@ pub record Renumbers (p : List ℕ) : Type 0 where
 -- MAIN CLAIM (R2, R4)
 abbrev pub RenumberRight : Type 0
 RenumberRight = (p : List ℕ) → Accepted p → Renumbers p
+
+-- R5: of the plan p, with the bytes out lent, the plan q is left
+pub record AsRenumbered (p out q : List ℕ) : Type 0 where
+  pub given : Accepted p
+  pub long : length out ≡ length p
+  pub accepted : Accepted q
+  pub same : SameTree q p
+  pub ordered : inPreorder q ≡ true
+
+-- CLAIM (R4, R5). A call passes and leaves q just where p is accepted, the lent bytes have its length, and q is the same tree in the fixed numbering.
+abbrev pub RenumberCall : Type 0
+RenumberCall = (p out q : List ℕ) → (renumberOf p out ≡ converted 0 q) ↔ AsRenumbered p out q
