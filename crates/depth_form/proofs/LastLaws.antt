@@ -31,7 +31,7 @@ levels-told d some h = record {
   first = eqb-true (depthAt d 0) 1 (test-at levelOk d 0 h some);
   later = λ v l.
       let k : (leb 2 (depthAt d (suc v)) && leb (depthAt d (suc v)) (suc (depthAt d v))) ≡ true =
-          rw (ne-eqb (suc v) 0 (λ z. omega arith)) at (test-at levelOk d (suc v) h l) in
+      rw (ne-eqb (suc v) 0 (λ z. omega arith)) at (test-at levelOk d (suc v) h l) in
       (leb-true 2 (depthAt d (suc v)) (and-left _ _ k), leb-true (depthAt d (suc v)) (suc (depthAt d v)) (and-right (leb 2 (depthAt d (suc v))) _ k));
 }
 

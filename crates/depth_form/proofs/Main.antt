@@ -38,11 +38,11 @@ depths-there p ok h =
     let shaped = passes p passed .shaped in
     record {
       accepted =
-        form-as-plan (depthForm p)
-        (sym (plan-length-ok (depthForm p) even) ∙ ap lengthOk back ∙ shaped .long)
-        (sym (plan-kinds-ok (depthForm p)) ∙ ap (atAll kindOk) back ∙ shaped .kinds)
-        (levels-by (depthForm p) (form-levels p ok order))
-        ∙ ap checkNumber back ∙ passed;
+          form-as-plan (depthForm p)
+          (sym (plan-length-ok (depthForm p) even) ∙ ap lengthOk back ∙ shaped .long)
+          (sym (plan-kinds-ok (depthForm p)) ∙ ap (atAll kindOk) back ∙ shaped .kinds)
+          (levels-by (depthForm p) (form-levels p ok order))
+          ∙ ap checkNumber back ∙ passed;
       long = form-length p ∙ sym (ok .even);
       back = back;
     }

@@ -28,14 +28,16 @@ module _ (f g : ℕ → ℕ) where
       (λ z. let e = eqb-true v n z in
       let len = pairs-length n in
       let s : 2 * v ≡ length (pairs f g n) + 0 = omega arith in
-      let s′ : 2 * v + 1 ≡ length (pairs f g n) + 1 = omega arith in
-      (ap (λ i. getD (pairs f g n ++ (f n ∷ g n ∷ [])) i 0) s ∙ getD-append-add (pairs f g n) (f n ∷ g n ∷ []) 0 0 ∙ ap f (sym e),
-      ap (λ i. getD (pairs f g n ++ (f n ∷ g n ∷ [])) i 0) s′ ∙ getD-append-add (pairs f g n) (f n ∷ g n ∷ []) 1 0 ∙ ap g (sym e)))
+      let s′ : 2 * v + 1 ≡ length (pairs f g n) + 1 = omega arith in (
+        ap (λ i. getD (pairs f g n ++ (f n ∷ g n ∷ [])) i 0) s ∙ getD-append-add (pairs f g n) (f n ∷ g n ∷ []) 0 0 ∙ ap f (sym e),
+        ap (λ i. getD (pairs f g n ++ (f n ∷ g n ∷ [])) i 0) s′ ∙ getD-append-add (pairs f g n) (f n ∷ g n ∷ []) 1 0 ∙ ap g (sym e),
+      ))
       (λ z. let e = eqb-false v n z in
       let len = pairs-length n in
-      let r = pairs-at n v (omega arith) in
-      (List·getD-append (pairs f g n) (f n ∷ g n ∷ []) 0 (2 * v) (omega arith) ∙ r .0,
-      List·getD-append (pairs f g n) (f n ∷ g n ∷ []) 0 (2 * v + 1) (omega arith) ∙ r .1))
+      let r = pairs-at n v (omega arith) in (
+        List·getD-append (pairs f g n) (f n ∷ g n ∷ []) 0 (2 * v) (omega arith) ∙ r .0,
+        List·getD-append (pairs f g n) (f n ∷ g n ∷ []) 0 (2 * v + 1) (omega arith) ∙ r .1,
+      ))
 
   pub pairs-kind : (n v : ℕ) → v < n → kindByte (pairs f g n) v ≡ f v
   unfolding kindByte

@@ -27,7 +27,8 @@ renumber-just right p out q = (
       let f = fit-exact p (eqb (length out) (length p)) .none .0 (r .0) in
       let n = right p (f .0) in
       rw (← r .1) (record { given = f .0; long = eqb-true (length out) (length p) (f .1); accepted = n .accepted; same = n .same; ordered = n .ordered }),
-  λ h. (passed-just _ out (renumbered p) q) .1
-      (fit-exact p (eqb (length out) (length p)) .none .1 (h .given, eq-eqb (length out) (length p) (h .long)),
-      sym (right p (h .given) .only q (h .accepted) (h .same) (h .ordered))),
+  λ h. (passed-just _ out (renumbered p) q) .1 (
+    fit-exact p (eqb (length out) (length p)) .none .1 (h .given, eq-eqb (length out) (length p) (h .long)),
+    sym (right p (h .given) .only q (h .accepted) (h .same) (h .ordered)),
+  ),
 )

@@ -45,7 +45,7 @@ module _ (q : List ℕ) where
       let e′ : Ends q u (suc n + nodeCount b + nodeCount t) = rw a at e in
       let f′ : Ends q u (suc n + nodeCount b′ + nodeCount t′) = rw a′ at f in
       let same : b ≡ b′ = laid-unique b b′ n (suc n) (omega arith) g h (omega arith) (omega arith)
-          (ends-below t u n (suc n + nodeCount b) l g′ e′) (ends-below t′ u n (suc n + nodeCount b′) l h′ f′) in
+      (ends-below t u n (suc n + nodeCount b) l g′ e′) (ends-below t′ u n (suc n + nodeCount b′) l h′ f′) in
       let moved : suc n + nodeCount b′ ≡ suc n + nodeCount b = ap (λ r. suc n + nodeCount r) (sym same) in
       let h″ : Laid q t′ u (suc n + nodeCount b) = rw moved at h′ in
       let f″ : Ends q u (suc n + nodeCount b + nodeCount t′) = rw moved at f′ in
@@ -69,7 +69,7 @@ module _ (q : List ℕ) where
       let u-at : getD q (2 * n + 1) 0 ≡ u = sym (getD-drop (2 * n) q 1 0) ∙ ap (λ (l : List ℕ). getD l 1 0) e in
       let two : 2 * suc n ≡ 2 * n + 2 = omega arith in
       let next : drop (2 * suc n) q ≡ written b n (suc n) ++ (written t u (suc n + nodeCount b) ++ r) =
-          ap (λ i. drop i q) two ∙ sym (drop-drop 2 (2 * n) q) ∙ ap (λ (l : List ℕ). drop 2 l) e ∙ append-assoc (written b n (suc n)) (written t u (suc n + nodeCount b)) r in
+      ap (λ i. drop i q) two ∙ sym (drop-drop 2 (2 * n) q) ∙ ap (λ (l : List ℕ). drop 2 l) e ∙ append-assoc (written b n (suc n)) (written t u (suc n + nodeCount b)) r in
       let below = laid-written b n (suc n) (written t u (suc n + nodeCount b) ++ r) next in
       let beside = laid-written t u (suc n + nodeCount b) r (below .1) in
       (first k-at u-at (below .0) (beside .0), ap (λ i. drop (2 * i) q) (let z : n + suc (nodeCount b + nodeCount t) ≡ suc n + nodeCount b + nodeCount t = omega arith in z) ∙ beside .1)
@@ -125,5 +125,6 @@ module _ (q : List ℕ) where
     where
       next : Laid q t u (suc (suc n + nodeCount b))
       next = rw (let z : suc (suc n) + nodeCount b ≡ suc (suc n + nodeCount b) = omega arith in z) at h
+
       above : Under q u (suc n + nodeCount b)
       above = under-trans q u (suc n) (suc n + nodeCount b) (up (omega arith) (self (sym c))) (laid-under b (suc n) (suc n) g (self refl))

@@ -103,7 +103,7 @@ module _ (p : List ℕ) (ordered : Ordered p) (order : Preorder p) where
             let b = deeper w l lt in
             let end : ℕ = suc w + nodeCount (belowWithin f p w) in
             let skip : childrenFrom p v (w + 1) ≡ childrenFrom p v end =
-                from-skip p v end (w + 1) end (omega arith) (omega arith) (b .within) (λ x i j q. let s = b .stays x (omega arith) j in omega arith) in
+            from-skip p v end (w + 1) end (omega arith) (omega arith) (b .within) (λ x i j q. let s = b .stays x (omega arith) j in omega arith) in
             let out : (end ≡ size p) ⊎ (Under p (parent p end) v) = cases (b .out) inl (λ h. inr (rw e at (h .1))) in
             rw (from-yes p v w lt z, skip)
             (below-more v w (belowWithin f p w) (rest end) l e b (again end (omega arith) (omega arith) (b .within) out))

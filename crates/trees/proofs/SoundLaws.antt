@@ -99,7 +99,7 @@ module _ (q : List ℕ) (ordered : Ordered q) (even : length q ≡ 2 * size q) (
   sound-accepted =
       let at : (v : ℕ) → v < size q → Good (depth q v) (kindByte q v) (treesBelow q v) = λ v m. each (suc v) v (omega arith) m in
       let count : (v : ℕ) → v < size q → fits (kind q v) (length (children q v)) ≡ true =
-          λ v m. rw (trees-step q ordered v m, breadth-of (kindByte q) (treesBelow q) (children q v)) at (at v m .counted) in
+      λ v m. rw (trees-step q ordered v m, breadth-of (kindByte q) (treesBelow q) (children q v)) at (at v m .counted) in
       record {
         even = even;
         some = ordered .some;
