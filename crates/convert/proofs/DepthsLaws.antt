@@ -1,7 +1,7 @@
 -- A plan's depth form, written line by line: a depth is one more than the parent's, which is there already. Assumes nothing.
 use mathlib.Core.Path.{_≡_, sym, _∙_, ap}
 use mathlib.Core.List.{List}
-use Prim.Native.Nat.{ℕ, suc, _+_, _*_, _≤_, _<_}
+use Prim.Native.Nat.{ℕ, _+_, _*_, _≤_, _<_}
 use native.Mathlib.Omega.{arith}
 use lib.ListN.{length, getD}
 use Rattle.plan.specs.Plan.{size, kindByte, parent, depth}
@@ -9,7 +9,7 @@ use Rattle.plan.specs.Check.{Accepted}
 use Rattle.plan.proofs.PlanLaws.{depth-root, depth-child}
 use Rattle.plan.proofs.AcceptedLaws.{accepted-ordered}
 use Rattle.depth_form.specs.Form.{depthForm}
-use Rattle.convert.proofs.LineLaws.{Writing, withLine, write-none, write-room, write-turn, write-done}
+use Rattle.convert.proofs.LineLaws.{Writing, withLine, write-none, write-turn, write-done}
 
 -- the lines below v are the depth form's
 pub record Deepening (p out : List ℕ) (v : ℕ) : Type 0 where

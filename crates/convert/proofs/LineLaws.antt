@@ -1,16 +1,15 @@
 -- Loops that write two bytes a line: below v each line is that of f and g. Assumes nothing.
 use mathlib.Core.Path.{_≡_, sym, _∙_}
-use mathlib.Core.Bool.{true, false}
 use mathlib.Core.List.{List}
 use Prim.Native.Nat.{ℕ, _+_, _*_, _≤_, _<_}
 use native.Mathlib.Omega.{arith}
 use lib.Dec.{eqb}
-use lib.ListN.{length, getD, set, length-set}
+use lib.ListN.{length, set, length-set}
 use lib.Seq.{getD-set-same, getD-set-other}
 use borrow.Author.Tests.{eqb-true, eqb-false}
 use Rattle.lists.proofs.Logic.{cases, decided}
 use Rattle.plan.specs.Plan.{kindByte, parent}
-use Rattle.trees.proofs.LaidLaws.{Alike, alike-same}
+use Rattle.trees.proofs.LaidLaws.{alike-same}
 use Rattle.depth_form.specs.Form.{pairs}
 use Rattle.depth_form.proofs.PairsLaws.{pairs-length, pairs-kind, pairs-parent}
 

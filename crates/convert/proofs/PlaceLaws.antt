@@ -1,9 +1,9 @@
 -- A node's tree, written child by child: a turn of the loop at a time. Assumes nothing.
-use mathlib.Core.Path.{_≡_, refl, sym, _∙_, ap, subst}
+use mathlib.Core.Path.{_≡_, sym, _∙_, ap, subst}
 use mathlib.Core.List.{List, [], _∷_, _++_, append-nil}
 use Prim.Native.Nat.{ℕ, suc, _+_, _*_, _-_, _≤_, _<_}
 use native.Mathlib.Omega.{arith}
-use lib.ListN.{length, getD, drop, drop-of-length-le}
+use lib.ListN.{length, getD, drop-of-length-le}
 use Rattle.lists.specs.Put.{Put}
 use Rattle.lists.proofs.PutLaws.{Left, left-all, left-none, left-put, put-two, put-append, put-front}
 use Rattle.plan.specs.Plan.{size, kindByte, children}

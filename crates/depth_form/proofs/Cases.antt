@@ -1,14 +1,13 @@
 -- Depth forms (rules R6 to R10), worked out by hand from the rules: plans there and back, the number of every kind of form, and calls. Assumes
 -- nothing.
 use mathlib.Core.Path.{_≡_, refl}
-use mathlib.Core.Bool.{Bool, true, false, cond}
+use mathlib.Core.Bool.{cond}
 use mathlib.Core.List.{List, [], _∷_, _++_, map}
 use Prim.Native.Nat.{ℕ, zero, suc}
 use lib.Dec.{eqb}
-use lib.ListN.{length}
 use Rattle.lists.specs.Seq.{keep, upFrom, allBelow}
 use Rattle.plan.specs.Plan.{kindOf, size, kindByte, kind, parent, childrenBelow, children, childCount, depthWithin, depth}
-use Rattle.plan.specs.Check.{lengthOk, kindOk, parentOk, underBlock, fits, countOk, depthOk, atAll, checkNumber, fitNumber}
+use Rattle.plan.specs.Check.{lengthOk, kindOk, parentOk, underBlock, fits, countOk, depthOk, atAll, checkNumber}
 use Rattle.trees.specs.Numbering.{aboveWithin, isAbove, follows, inPreorder}
 use Rattle.trees.specs.Renumber.{Converted, converted}
 use Rattle.depth_form.specs.Form.{pairs, depthForm, depthAt, lastAt, lineParent, formPlan, levelOk, formNumber}

@@ -1,16 +1,15 @@
 -- Plans, their trees, and what renumbering makes of them (rules R1 to R5), worked out by hand from the rules. Assumes nothing.
 use mathlib.Core.Path.{_≡_, refl}
 use mathlib.Core.Bool.{Bool, true, false, cond}
-use mathlib.Core.List.{List, [], _∷_, _++_, map}
+use mathlib.Core.List.{List, [], _∷_, map}
 use Prim.Native.Nat.{ℕ, zero, suc}
 use lib.Dec.{eqb}
-use lib.ListN.{length}
 use Rattle.lists.specs.Seq.{keep, upFrom, allBelow}
 use Rattle.plan.specs.Plan.{kindOf, size, kindByte, kind, parent, childrenBelow, children, childCount, depthWithin, depth}
 use Rattle.plan.specs.Check.{lengthOk, kindOk, parentOk, underBlock, fits, countOk, depthOk, atAll, checkNumber, fitNumber}
 use Rattle.trees.specs.Tree.{Forest, none, tree, treesOf, belowWithin, treesBelow, treeOf, nodeCount}
-use Rattle.trees.specs.Numbering.{written, planOf, renumbered, aboveWithin, isAbove, follows, inPreorder}
-use Rattle.trees.specs.Renumber.{Converted, converted, renumberNumber, renumberOf}
+use Rattle.trees.specs.Numbering.{written, renumbered, aboveWithin, isAbove, follows, inPreorder}
+use Rattle.trees.specs.Renumber.{converted, renumberNumber, renumberOf}
 
 -- serial 0: task 1, xor 2 of tasks 3 and 4, task 5
 abbrev P : List ℕ

@@ -9,7 +9,7 @@ use lib.ListN.{length}
 use Rattle.lists.specs.Member.{In, here, there}
 use Rattle.plan.specs.Plan.{kindOf, size, kindByte, kind, parent, children, depth}
 use Rattle.plan.specs.Check.{fits, Ordered, Accepted}
-use Rattle.plan.proofs.PlanLaws.{Child, child-of, child-in, depth-root, depth-child}
+use Rattle.plan.proofs.PlanLaws.{child-of, child-in, depth-root, depth-child}
 use Rattle.plan.proofs.AcceptedLaws.{accepted-ordered}
 use Rattle.plan.proofs.CheckLaws.{fits-none, fits-pair, fits-some, fits-most, fits-by}
 use Rattle.plan.proofs.Exact.{none-left}

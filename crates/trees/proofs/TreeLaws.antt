@@ -12,7 +12,7 @@ use Rattle.plan.specs.Check.{Ordered}
 use Rattle.plan.proofs.PlanLaws.{child-of}
 use Rattle.links.specs.Links.{childrenFrom}
 use Rattle.links.proofs.LinkLaws.{from-end, from-yes, from-skip}
-use Rattle.trees.specs.Tree.{Forest, none, tree, treesOf, belowWithin, treesBelow, treeOf, nodeCount}
+use Rattle.trees.specs.Tree.{Forest, treesOf, belowWithin, treesBelow, treeOf, nodeCount}
 use Rattle.trees.proofs.OrderLaws.{from-behind}
 
 trees-same : (kind : ℕ → ℕ) (a b : ℕ → Forest) (cs : List ℕ) → ((c : ℕ) → In c cs → a c ≡ b c) → treesOf kind a cs ≡ treesOf kind b cs

@@ -1,9 +1,9 @@
 -- The plan of a tree of up to 160 nodes is in the fixed numbering, and has that tree. Assumes nothing.
 use mathlib.Core.Path.{_≡_, refl, sym, _∙_, ap}
 use mathlib.Core.Bool.{true}
-use mathlib.Core.List.{List, [], _++_, append-nil}
+use mathlib.Core.List.{List, [], append-nil}
 use mathlib.Core.Logic.{inl}
-use Prim.Native.Nat.{ℕ, zero, suc, _+_, _*_, _/_, _<_}
+use Prim.Native.Nat.{ℕ, zero, suc, _+_, _*_, _<_}
 use native.Mathlib.Omega.{arith}
 use lib.ListN.{length}
 use Rattle.lists.proofs.Logic.{cases}
@@ -11,9 +11,9 @@ use Rattle.plan.specs.Plan.{size, kindByte, parent}
 use Rattle.plan.specs.Check.{Ordered}
 use Rattle.plan.specs.Under.{self}
 use Rattle.trees.specs.Tree.{Forest, none, tree, treesBelow, treeOf, nodeCount}
-use Rattle.trees.specs.Numbering.{written, planOf, inPreorder}
+use Rattle.trees.specs.Numbering.{planOf, inPreorder}
 use Rattle.trees.proofs.AboveLaws.{Preorder, preorder-by}
-use Rattle.trees.proofs.LaidLaws.{Laid, nothing, first, laid-unique, written-length, laid-written, Stands, laid-stands}
+use Rattle.trees.proofs.LaidLaws.{Laid, first, laid-unique, written-length, laid-written, Stands, laid-stands}
 use Rattle.trees.proofs.OrderLaws.{Below, below-all}
 
 -- a root of kind k, and its children's trees behind it

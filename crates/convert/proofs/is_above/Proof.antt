@@ -1,5 +1,5 @@
 -- The invariant is `Climbing` of proofs/ClimbLaws.antt. Assumes nothing.
-use mathlib.Core.Path.{_≡_, refl}
+use mathlib.Core.Path.{refl}
 use native.Mathlib.Omega.{arith}
 use Rattle.convert.proofs.ClimbLaws.{Climbing, climb-less, climb-turn, climb-done}
 use Rattle.convert.proofs.is_above.Statement.{statement}

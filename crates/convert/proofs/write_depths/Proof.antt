@@ -1,10 +1,9 @@
 -- The invariant is `Deepening` of proofs/DepthsLaws.antt. Assumes nothing.
-use mathlib.Core.Path.{_≡_, _∙_}
 use Prim.Native.Nat.{_-_, _<_}
 use native.Mathlib.Omega.{arith}
 use borrow.Author.Needs.{needs}
 use Rattle.plan.specs.Plan.{size}
-use Rattle.convert.proofs.LineLaws.{line-length, write-room}
+use Rattle.convert.proofs.LineLaws.{write-room}
 use Rattle.convert.proofs.DepthsLaws.{Deepening, deep-room, deep-root, DeepTurn, deep-low, deep-read, deep-small, deep-turn, deep-done}
 use Rattle.convert.proofs.write_depths.Statement.{statement}
 use Rattle.convert.proofs.write_depths.Tie as tie

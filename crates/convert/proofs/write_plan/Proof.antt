@@ -1,10 +1,8 @@
 -- The invariant is `Forming` of proofs/FormLaws.antt. Assumes nothing.
-use mathlib.Core.Path.{_≡_, _∙_}
 use Prim.Native.Nat.{_-_, _<_}
 use native.Mathlib.Omega.{arith}
 use borrow.Author.Needs.{needs}
 use Rattle.plan.specs.Plan.{size}
-use Rattle.convert.proofs.LineLaws.{line-length}
 use Rattle.convert.proofs.FormLaws.{Lines, lines-told, Forming, form-room, form-root, FormTurn, form-deep, form-flat, form-small, form-turn-room, form-turn, form-done}
 use Rattle.convert.proofs.write_plan.Statement.{statement}
 use Rattle.convert.proofs.write_plan.Tie as tie
