@@ -33,11 +33,11 @@ module _ (d : List ℕ) where
   unfolding formPlan
   plan-long = pairs-length (kindByte d) (lineParent d) (size d)
 
-  pub plan-kind : (v : ℕ) → v < size d → kindByte (formPlan d) v ≡ kindByte d v
+  plan-kind : (v : ℕ) → v < size d → kindByte (formPlan d) v ≡ kindByte d v
   unfolding formPlan
   plan-kind v l = pairs-kind (kindByte d) (lineParent d) (size d) v l
 
-  pub plan-root : 0 < size d → parent (formPlan d) 0 ≡ 255
+  plan-root : 0 < size d → parent (formPlan d) 0 ≡ 255
   unfolding formPlan lineParent
   plan-root l = pairs-parent (kindByte d) (lineParent d) (size d) 0 l
 
@@ -66,7 +66,7 @@ module _ (d : List ℕ) (long : Long d) (s : Levels d) where
       let k = s .later v l in
       rw (plan-parent d v l) (last-found d s v (pred (depthAt d (suc v))) (omega arith) (omega arith) (omega arith))
 
-  pub parent-line : (v : ℕ) → 0 < v → v < size d → (parent (formPlan d) v < v) × (suc (depthAt d (parent (formPlan d) v)) ≡ depthAt d v)
+  parent-line : (v : ℕ) → 0 < v → v < size d → (parent (formPlan d) v < v) × (suc (depthAt d (parent (formPlan d) v)) ≡ depthAt d v)
   parent-line zero l m = absurd (omega arith)
   parent-line (suc v) l m =
       let r = parent-found v m in
