@@ -1,4 +1,4 @@
--- The tree of a plan without a bound on its levels, and that it has the plan's nodes, each once. Assumes nothing.
+-- The tree of a plan without a bound on its levels, and that it has as many nodes as the plan. Assumes nothing.
 use mathlib.Core.Path.{_≡_, refl, sym, _∙_}
 use mathlib.Core.List.{List, [], _∷_}
 use Prim.Native.Nat.{ℕ, zero, suc, _+_, _-_, _≤_, _<_}

@@ -12,7 +12,7 @@ use Rattle.trees.specs.Tree.{treesOf, treesBelow, treeOf, SameTree, node
 use Rattle.trees.specs.Numbering.{renumbered, inPreorder}
 use Rattle.trees.specs.Renumber.{converted, renumberOf}
 
--- CLAIM (R1). What is below a node is its children's trees, in rising number; and the tree has each node of the plan once.
+-- CLAIM (R1). What is below a node is its children's trees, in rising number; and the tree has as many nodes as the plan.
 abbrev pub TreeSteps : Type 0
 TreeSteps = (p : List ℕ) → Ordered p →
     ((v : ℕ) → v < size p → treesBelow p v ≡ treesOf (kindByte p) (treesBelow p) (children p v)) × (nodeCount (treeOf p) ≡ size p)
