@@ -1,5 +1,5 @@
 /*
- * Vulcedar 1.6.0: jobs that follow a plan, decided by the sites that do the work.
+ * Vulcedar 1.7.0: jobs that follow a plan, decided by the sites that do the work.
  *
  * A plan is a tree of tasks and blocks. Every node has a site; a site keeps one row of bytes, what it has heard, and
  * decides the events of its node from that row alone. This header is all that a host needs; docs/GUIDE.md shows how a
@@ -97,7 +97,7 @@ extern "C" {
 
 /* The version of this header. vulcedar_version() is that of the library that is linked. */
 #define VULCEDAR_VERSION_MAJOR 1
-#define VULCEDAR_VERSION_MINOR 6
+#define VULCEDAR_VERSION_MINOR 7
 #define VULCEDAR_VERSION_PATCH 0
 #define VULCEDAR_VERSION (65536u * VULCEDAR_VERSION_MAJOR + 256u * VULCEDAR_VERSION_MINOR + VULCEDAR_VERSION_PATCH)
 
@@ -163,6 +163,9 @@ enum vulcedar_number {
     VULCEDAR_NO_FREE_POINT = 20,   /* sixteen other points are in use */
     VULCEDAR_BAD_TABLE = 21,       /* the table of classes is not one; found before the plan's own numbers */
     VULCEDAR_BAD_DESK = 22,        /* a plan with desks has a desk above VULCEDAR_DESK_HIGHEST; found behind 6 and before 7 */
+    VULCEDAR_NOT_REPEATABLE = 23,  /* the marked node is no block of kind 03, 04, 05 or 08 with exactly one child */
+    VULCEDAR_BAD_COUNT = 24,       /* the count is not 1 to VULCEDAR_CHILDREN_MOST */
+    VULCEDAR_TOO_MANY_NODES = 25,  /* the repeated plan would have more than VULCEDAR_NODES_MOST nodes */
     VULCEDAR_BAD_MARKS = 28,       /* the marks are not those that the pass leaves for these answers */
     VULCEDAR_BAD_TARGET = 29,      /* a mark is wanted that the pass leaves at no node, or an end that it leaves at no root */
     VULCEDAR_NO_WAY = 30           /* the pass accepts no answers with the marks that are wanted */
@@ -186,8 +189,9 @@ enum vulcedar_number {
 /* The site, or desk, of a step of a simulation, of a kept step and of an entry that stands for "the event happens". */
 #define VULCEDAR_HAPPENS 0xffu
 
-/* Limits. No guard has more bytes than VULCEDAR_GUARD_MOST. */
+/* Limits. No plan of two bytes a node has more bytes than VULCEDAR_PLAN_MOST, no guard more than VULCEDAR_GUARD_MOST. */
 #define VULCEDAR_NODES_MOST 160u
+#define VULCEDAR_PLAN_MOST 320u
 #define VULCEDAR_DESK_HIGHEST 0x9fu
 #define VULCEDAR_CHILDREN_MOST 32u
 #define VULCEDAR_DEPTH_MOST 32u
@@ -235,6 +239,16 @@ uint32_t vulcedar_to_depths(const uint8_t *plan, size_t plan_len, uint8_t *out, 
  * 4 to 6 as for a plan; then 7 if out_len is not depths_len. out is written only on 0.
  */
 uint32_t vulcedar_from_depths(const uint8_t *depths, size_t depths_len, uint8_t *out, size_t out_len);
+
+/*
+ * One block for each channel: writes to the front of out a plan in which the subtree of the marked block's child stands
+ * count times, side by side below that block, and all else is as in the plan handed in. node is the marked block, by its
+ * number in that plan: of kind 03, 04, 05 or 08, with one child. The plan written is in the fixed numbering and within all
+ * limits; with a count of 1 it is that of vulcedar_renumber. The value is its number of nodes; the bytes of out behind its
+ * two bytes a node are left. 1 to 6, 7 if out_len is not VULCEDAR_PLAN_MOST, 8 if the plan has no such node, 23, 24, 25. out
+ * is written only on 0.
+ */
+uint32_t vulcedar_repeat(const uint8_t *plan, size_t plan_len, uint32_t node, uint32_t count, uint8_t *out, size_t out_len);
 
 /*
  * Checks a plan and tells how deep every node lies, for an editor that shows the tree while it is typed. depths has one
