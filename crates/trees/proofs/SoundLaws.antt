@@ -3,9 +3,11 @@
 use mathlib.Core.Path.{_≡_, refl, sym, _∙_, ap}
 use mathlib.Core.Bool.{true}
 use mathlib.Core.List.{List, [], _∷_}
+use mathlib.Core.Logic.{_⊎_, inl}
 use Prim.Native.Nat.{ℕ, zero, suc, _+_, _*_, _≤_, _<_}
 use native.Mathlib.Omega.{arith}
 use lib.ListN.{length}
+use Rattle.lists.proofs.Logic.{cases}
 use Rattle.lists.specs.Member.{In, here, there}
 use Rattle.plan.specs.Plan.{kindOf, size, kindByte, kind, parent, children, depth}
 use Rattle.plan.specs.Check.{fits, Ordered, Accepted}
@@ -17,7 +19,7 @@ use Rattle.trees.specs.Tree.{Forest, none, tree, treesOf, treesBelow, tr
 use Rattle.trees.proofs.TreeLaws.{trees-step}
 
 -- how many trees stand side by side
-pub breadth : Forest → ℕ
+unfoldable pub breadth : Forest → ℕ
 breadth none = 0
 breadth (tree k b t) = suc (breadth t)
 
@@ -34,7 +36,7 @@ pub record Good (d k : ℕ) (b : Forest) : Type 0 where
   pub shallow : d ≤ 32
   pub sound : Sound (suc d) b
 
-breadth-of : (kind : ℕ → ℕ) (below : ℕ → Forest) (cs : List ℕ) → breadth (treesOf kind below cs) ≡ length cs
+pub breadth-of : (kind : ℕ → ℕ) (below : ℕ → Forest) (cs : List ℕ) → breadth (treesOf kind below cs) ≡ length cs
 unfolding breadth treesOf
 breadth-of kind below [] = refl
 breadth-of kind below (c ∷ cs) = ap suc (breadth-of kind below cs)
@@ -54,32 +56,44 @@ unfolding treesOf
 sound-in kind below d (x ∷ cs) s (here q) = rw q (sound-top s)
 sound-in kind below d (x ∷ cs) (grown a b e l s r) (there i) = sound-in kind below d cs r i
 
+pub sound-root : {k : ℕ} {b : Forest} → Good 1 k b → Sound 1 (tree k b none)
+sound-root g = grown (g .low) (g .high) (g .counted) (g .shallow) (g .sound) bare
+
 module _ (p : List ℕ) (ok : Accepted p) where
-  counted : (v : ℕ) → v < size p → fits (kindOf (kindByte p v)) (breadth (treesBelow p v)) ≡ true
+  -- a node below which there are its children's trees, whatever is below those
+  counted : (below : ℕ → Forest) (v : ℕ) → v < size p → fits (kindOf (kindByte p v)) (breadth (treesOf (kindByte p) below (children p v))) ≡ true
   unfolding kind
-  counted v m =
-      rw (trees-step p (accepted-ordered p ok) v m, breadth-of (kindByte p) (treesBelow p) (children p v))
+  counted below v m =
+      rw (breadth-of (kindByte p) below (children p v))
       (fits-by (kind p v) (length (children p v)) (λ e. ap length (ok .tasks v m e)) (ok .blocks v m) (ok .most v m) (ok .two v m))
 
-  good : (f v : ℕ) → size p ≤ f + v → v < size p → Good (depth p v) (kindByte p v) (treesBelow p v)
-  good zero v i m = absurd (omega arith)
-  good (suc f) v i m = record {
-    low = ok .low v m;
-    high = ok .high v m;
-    counted = counted v m;
-    shallow = ok .shallow v m;
-    sound = rw (trees-step p (accepted-ordered p ok) v m) (sound-by (kindByte p) (treesBelow p) (suc (depth p v)) (children p v) (λ c n.
-        let h = child-of p v n in
-        let l = ok .below c (h .low) (h .high) in
-        let e : depth p c ≡ suc (depth p v) = depth-child p (accepted-ordered p ok) c (h .low) (h .high) ∙ ap (λ u. suc (depth p u)) (h .of) in
-        rw (sym e) (good f c (omega (arith, h .of)) (h .high))));
-  }
+  -- what is below each node is its children's trees, or is known to be good
+  module _ (below : ℕ → Forest) (step : (v : ℕ) → v < size p → (below v ≡ treesOf (kindByte p) below (children p v)) ⊎ Good (depth p v) (kindByte p v) (below v)) where
+    good-within : (f v : ℕ) → size p ≤ f + v → v < size p → Good (depth p v) (kindByte p v) (below v)
+    good-within zero v i m = absurd (omega arith)
+    good-within (suc f) v i m = cases (step v m)
+        (λ e. record {
+          low = ok .low v m;
+          high = ok .high v m;
+          counted = rw e (counted below v m);
+          shallow = ok .shallow v m;
+          sound = rw e (sound-by (kindByte p) below (suc (depth p v)) (children p v) (λ c n.
+              let h = child-of p v n in
+              let l = ok .below c (h .low) (h .high) in
+              let d : depth p c ≡ suc (depth p v) = depth-child p (accepted-ordered p ok) c (h .low) (h .high) ∙ ap (λ u. suc (depth p u)) (h .of) in
+              rw (sym d) (good-within f c (omega (arith, h .of)) (h .high))));
+        })
+        (λ g. g)
+
+    pub good-root : Good 1 (kindByte p 0) (below 0)
+    good-root = rw (depth-root p) at (good-within (size p) 0 (omega arith) (ok .some))
+
+  pub good : (v : ℕ) → v < size p → Good (depth p v) (kindByte p v) (treesBelow p v)
+  good v m = good-within (treesBelow p) (λ w l. inl (trees-step p (accepted-ordered p ok) w l)) (size p) v (omega arith) m
 
   pub accepted-sound : Sound 1 (treeOf p)
   unfolding treeOf
-  accepted-sound =
-      let g : Good 1 (kindByte p 0) (treesBelow p 0) = rw (depth-root p) at (good (size p) 0 (omega arith) (ok .some)) in
-      grown (g .low) (g .high) (g .counted) (g .shallow) (g .sound) bare
+  accepted-sound = sound-root (rw (depth-root p) at (good 0 (ok .some)))
 
 module _ (q : List ℕ) (ordered : Ordered q) (even : length q ≡ 2 * size q) (root : parent q 0 ≡ 255) (sound : Sound 1 (treeOf q)) where
   each : (f v : ℕ) → v < f → v < size q → Good (depth q v) (kindByte q v) (treesBelow q v)

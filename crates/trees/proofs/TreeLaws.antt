@@ -15,7 +15,7 @@ use Rattle.links.proofs.LinkLaws.{from-end, from-yes, from-skip}
 use Rattle.trees.specs.Tree.{Forest, treesOf, belowWithin, treesBelow, treeOf, nodeCount}
 use Rattle.trees.proofs.OrderLaws.{from-behind}
 
-trees-same : (kind : ℕ → ℕ) (a b : ℕ → Forest) (cs : List ℕ) → ((c : ℕ) → In c cs → a c ≡ b c) → treesOf kind a cs ≡ treesOf kind b cs
+pub trees-same : (kind : ℕ → ℕ) (a b : ℕ → Forest) (cs : List ℕ) → ((c : ℕ) → In c cs → a c ≡ b c) → treesOf kind a cs ≡ treesOf kind b cs
 unfolding treesOf
 trees-same kind a b [] h = refl
 trees-same kind a b (c ∷ cs) h = rw (h c (here refl), trees-same kind a b cs (λ x i. h x (there i)))

@@ -1,0 +1,7 @@
+-- Laws that the proofs here and in upper crates cite.
+pub mod StepLaws
+pub mod CountLaws
+pub mod SoundLaws
+pub mod PlanLaws
+pub mod CallLaws
+pub mod Main
