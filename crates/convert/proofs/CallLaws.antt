@@ -1,23 +1,38 @@
 -- What each call comes to, by the test that fails first. Assumes nothing.
 use mathlib.Core.Path.{_≡_, sym, _∙_, ap}
 use mathlib.Core.Bool.{true, false}
-use mathlib.Core.List.{List, _++_}
+use mathlib.Core.List.{List, _++_, append-nil}
 use Prim.Native.Nat.{ℕ, _≤_}
 use native.Mathlib.Omega.{arith}
 use lib.Dec.{eqb}
-use lib.ListN.{length, take, drop, replicate, length-replicate}
+use lib.ListN.{length, take, drop, replicate, length-replicate, drop-of-length-le}
 use borrow.Author.Tests.{eqb-true, eq-eqb, ne-eqb}
 use Rattle.lists.proofs.Parts.{part-length, Back, copied-over}
 use Rattle.plan.specs.Check.{lengthOk, kindOk, atAll, checkNumber, fitNumber, Accepted}
 use Rattle.plan.proofs.CheckLaws.{length-told}
 use Rattle.plan.proofs.FitLaws.{fit-none}
 use Rattle.plan.proofs.Main.{check-exact}
+use Rattle.links.specs.Links.{Linked}
+use Rattle.trees.specs.Tree.{treesBelow, treeOf}
 use Rattle.trees.specs.Numbering.{renumbered, inPreorder}
 use Rattle.trees.specs.Renumber.{converted, renumberNumber, renumberOf}
+use Rattle.trees.proofs.RenumberLaws.{below-count, new-length}
+use Rattle.placing.specs.Place.{Placeable, Placed}
+use Rattle.placing.proofs.PlaceLaws.{root-placed}
 use Rattle.depth_form.specs.Form.{depthForm, formPlan, levelOk, formNumber}
 use Rattle.depth_form.specs.Calls.{toDepthsNumber, toDepthsOf, fromDepthsNumber, fromDepthsOf}
 use Rattle.depth_form.proofs.BackLaws.{plan-long}
 use Rattle.depth_form.proofs.Main.{form-as-plan}
+
+-- the root, from 0 on: there is room for the whole plan, and nothing is left of what was there
+pub root-ready : {p first next : List ℕ} → Accepted p → Linked p first next → (out : List ℕ) → length out ≡ length p → Placeable p first next out 0 0 (treesBelow p 0)
+root-ready {p} ok links out e = record { accepted = ok; linked = links; node = ok .some; room = omega (arith, below-count p ok, ok .even); few = omega (arith, ok .even, ok .few) }
+
+pub root-written : (p out : List ℕ) {b : List ℕ} {r : ℕ} → Accepted p → length out ≡ length p → Placed p 0 255 0 (treesBelow p 0) out b r → b ≡ renumbered p
+unfolding renumbered treeOf
+root-written p out ok e h =
+    let long : length (renumbered p) ≡ length out = new-length p ok ∙ sym e in
+    root-placed (omega (arith, below-count p ok, ok .even)) h ∙ ap (λ l. renumbered p ++ l) (drop-of-length-le out {i = length (renumbered p)} (omega arith)) ∙ append-nil (renumbered p)
 
 -- n is what `fit` answered
 module _ (p out : List ℕ) (n : ℕ) (told : n ≡ fitNumber p (eqb (length out) (length p))) where

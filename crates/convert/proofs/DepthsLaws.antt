@@ -9,7 +9,8 @@ use Rattle.plan.specs.Check.{Accepted}
 use Rattle.plan.proofs.PlanLaws.{depth-root, depth-child}
 use Rattle.plan.proofs.AcceptedLaws.{accepted-ordered}
 use Rattle.depth_form.specs.Form.{depthForm}
-use Rattle.convert.proofs.LineLaws.{Writing, withLine, write-none, write-turn, write-done}
+use Rattle.placing.proofs.PlaceLaws.{withLine}
+use Rattle.convert.proofs.LineLaws.{Writing, write-none, write-turn, write-done}
 
 -- the lines below v are the depth form's
 pub record Deepening (p out : List ℕ) (v : ℕ) : Type 0 where

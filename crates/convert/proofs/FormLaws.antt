@@ -15,7 +15,8 @@ use Rattle.plan.specs.Check.{lengthOk, atAll}
 use Rattle.plan.proofs.CheckLaws.{Long, length-told}
 use Rattle.depth_form.specs.Form.{depthAt, lastAt, lineParent, formPlan, levelOk}
 use Rattle.depth_form.proofs.LastLaws.{Levels, levels-told}
-use Rattle.convert.proofs.LineLaws.{Writing, withLine, write-none, write-room, write-turn, write-done}
+use Rattle.placing.proofs.PlaceLaws.{withLine}
+use Rattle.convert.proofs.LineLaws.{Writing, write-none, write-room, write-turn, write-done}
 
 -- a depth form whose length and levels are right
 pub record Lines (d : List ℕ) : Type 0 where

@@ -3,5 +3,4 @@ pub mod ClimbLaws
 pub mod LineLaws
 pub mod DepthsLaws
 pub mod FormLaws
-pub mod PlaceLaws
 pub mod CallLaws

@@ -10,6 +10,7 @@ use borrow.Author.Tests.{eqb-true, eqb-false}
 use Rattle.lists.proofs.Logic.{cases, decided}
 use Rattle.plan.specs.Plan.{kindByte, parent}
 use Rattle.trees.proofs.LaidLaws.{alike-same}
+use Rattle.placing.proofs.PlaceLaws.{withLine, line-length}
 use Rattle.depth_form.specs.Form.{pairs}
 use Rattle.depth_form.proofs.PairsLaws.{pairs-length, pairs-kind, pairs-parent}
 
@@ -20,14 +21,7 @@ pub record Writing (f g : ℕ → ℕ) (n : ℕ) (out : List ℕ) (v : ℕ) : Ty
   pub kinds : (i : ℕ) → i < v → kindByte out i ≡ f i
   pub seconds : (i : ℕ) → i < v → parent out i ≡ g i
 
--- out with the bytes x and y in line v
-abbrev pub withLine : List ℕ → ℕ → ℕ → ℕ → List ℕ
-withLine out v x y = set (set out (2 * v) x) (2 * v + 1) y
-
 module _ (out : List ℕ) (v x y : ℕ) (room : 2 * v + 1 < length out) where
-  pub line-length : length (withLine out v x y) ≡ length out
-  line-length = length-set (set out (2 * v) x) (2 * v + 1) y ∙ length-set out (2 * v) x
-
   line-kind : kindByte (withLine out v x y) v ≡ x
   unfolding kindByte
   line-kind = getD-set-other (set out (2 * v) x) (2 * v + 1) (2 * v) y 0 (λ e. omega arith) ∙ getD-set-same out (2 * v) x 0 (omega arith)
@@ -54,7 +48,7 @@ module _ {f g : ℕ → ℕ} {n : ℕ} where
 
     pub write-turn : (x y : ℕ) → x ≡ f v → y ≡ g v → Writing f g n (withLine out v x y) (v + 1)
     write-turn x y a b = record {
-      long = line-length out v x y write-room ∙ h .long;
+      long = line-length out v x y ∙ h .long;
       within = omega arith;
       kinds = λ i m. cases (decided (eqb i v))
           (λ z. let e = eqb-true i v z in rw e (line-kind out v x y write-room ∙ a))

@@ -3,15 +3,14 @@
 // the nodes, and a refused call leaves the lent bytes.
 ghost use mathlib.Core.Path.{_≡_};
 ghost use mathlib.Core.Bool.{true};
-ghost use Prim.Native.Nat.{_+_, _*_, _<_};
-ghost use lib.ListN.{length, set};
+ghost use Prim.Native.Nat.{_<_};
+ghost use lib.ListN.{length};
 ghost use Rattle.plan.specs.Plan.{size};
 ghost use Rattle.plan.specs.Check.{lengthOk, atAll, Accepted};
 ghost use Rattle.trees.specs.Numbering.{renumbered, isAbove, inPreorder};
 ghost use Rattle.trees.specs.Renumber.{converted, renumberOf};
 ghost use Rattle.depth_form.specs.Form.{depthForm, depthAt, formPlan, levelOk};
 ghost use Rattle.depth_form.specs.Calls.{toDepthsOf, fromDepthsOf};
-ghost use Rattle.convert.specs.Place.{Placeable, Placed};
 
 // Whether u is v or above v: climbs from v while that is behind u.
 fn is_above(plan: &[u8], u: usize, v: usize) -> bool
@@ -41,44 +40,6 @@ fn in_preorder(plan: &[u8]) -> bool
     true
 }
 
-// Writes the two bytes of node or line v.
-fn set_line(out: &mut [u8], v: usize, a: u8, b: u8)
-    requires { ⌜ 2 * v + 1 < length (now out) ⌝ }
-    ensures { λ _. ⌜ now (out .exit) ≡ set (set (now (out .entry)) (2 * v) a) (2 * v + 1) b ⌝ }
-{
-    out[2 * v] = a;
-    out[2 * v + 1] = b;
-}
-
-// Writes the tree of node v, whose parent is u, from the number n on, and answers the number behind it. It calls itself only for children that
-// have children: most have none, and that saves most calls.
-fn place(
-    plan: &[u8],
-    first: &[u8; 160],
-    next: &[u8; 160],
-    out: &mut [u8],
-    v: usize,
-    u: u8,
-    n: usize,
-) -> usize
-    requires { ⌜ Placeable (now plan) (now first) (now next) (now out) v n ⌝ }
-    ensures { λ r. ⌜ Placed (now (plan .entry)) v u n (now (out .entry)) (now (out .exit)) r ⌝ }
-{
-    set_line(out, n, checker::kind_at(plan, v), u);
-    let mut w = n + 1;
-    let mut c = plan::wide(first[v]);
-    while c != 0 {
-        if first[c] == 0 {
-            set_line(out, w, checker::kind_at(plan, c), n as u8);
-            w += 1;
-        } else {
-            w = place(plan, first, next, out, c, n as u8, w);
-        }
-        c = plan::wide(next[c]);
-    }
-    w
-}
-
 fn write_renumbered(plan: &[u8], out: &mut [u8])
     requires { ⌜ Accepted (now plan) × (length (now out) ≡ length (now plan)) ⌝ }
     ensures { λ _. ⌜ now (out .exit) ≡ renumbered (now (plan .entry)) ⌝ }
@@ -86,7 +47,7 @@ fn write_renumbered(plan: &[u8], out: &mut [u8])
     let mut first = [0u8; 160];
     let mut next = [0u8; 160];
     links::link_all(plan, &mut first, &mut next);
-    place(plan, &first, &next, out, 0, 255, 0);
+    placing::place(plan, &first, &next, out, 0, 255, 0);
 }
 
 // The same tree in the fixed numbering, into `out`: 1 to 6 by the check, 7 where `out` has not the plan's length, and 0 where it is written.
@@ -107,12 +68,12 @@ fn write_depths(plan: &[u8], out: &mut [u8])
     ensures { λ _. ⌜ now (out .exit) ≡ depthForm (now (plan .entry)) ⌝ }
 {
     let n = plan::node_count(plan);
-    set_line(out, 0, checker::kind_at(plan, 0), 1);
+    placing::set_line(out, 0, checker::kind_at(plan, 0), 1);
     let mut v = 1;
     while v < n {
         let u = checker::parent_at(plan, v);
         let d = out[2 * u + 1] + 1;
-        set_line(out, v, checker::kind_at(plan, v), d);
+        placing::set_line(out, v, checker::kind_at(plan, v), d);
         v += 1;
     }
 }
@@ -176,11 +137,11 @@ fn write_plan(depths: &[u8], out: &mut [u8])
 {
     let n = plan::node_count(depths);
     let mut last = [0u8; 161];
-    set_line(out, 0, checker::kind_at(depths, 0), 255);
+    placing::set_line(out, 0, checker::kind_at(depths, 0), 255);
     let mut v = 1;
     while v < n {
         let e = depth_at(depths, v);
-        set_line(out, v, checker::kind_at(depths, v), last[e - 1]);
+        placing::set_line(out, v, checker::kind_at(depths, v), last[e - 1]);
         last[e] = v as u8;
         v += 1;
     }

@@ -43,11 +43,15 @@ times-by : (r : ℕ) → 1 ≤ r → r ≤ 32 → timesOk r ≡ true
 unfolding timesOk
 times-by r a b = and-join _ _ (le-leb 1 r a) (le-leb r 32 b)
 
-times-told : (r : ℕ) → timesOk r ≡ true → (1 ≤ r) × (r ≤ 32)
+pub times-told : (r : ℕ) → timesOk r ≡ true → (1 ≤ r) × (r ≤ 32)
 unfolding timesOk
 times-told r h = (leb-true 1 r (and-left (leb 1 r) _ h), leb-true r 32 (and-right (leb 1 r) _ h))
 
--- the tests, from the first on: what each number says of them, and what 0 does
+-- k is what the tests before the template's say
+pub repeat-ready : (p out : List ℕ) (k : ℕ) → k ≡ fitNumber p (eqb (length out) 320) → k ≡ 0 → Accepted p × (length out ≡ 320)
+repeat-ready p out k told e = let f = fit-exact p (eqb (length out) 320) .none .0 (sym told ∙ e) in (f .0, eqb-true (length out) 320 (f .1))
+
+-- what a call comes to, by the test that fails first
 module _ (p : List ℕ) (m r : ℕ) (out : List ℕ) where
   pub repeat-refused : (k : ℕ) → repeatNumber p m r out ≡ k → (k ≡ 0 → ⊥) → repeatOf p m r out ≡ made k 0 out
   unfolding repeatOf
@@ -56,9 +60,6 @@ module _ (p : List ℕ) (m r : ℕ) (out : List ℕ) where
   pub by-lent : (k : ℕ) → k ≡ fitNumber p (eqb (length out) 320) → (k ≡ 0 → ⊥) → repeatOf p m r out ≡ made k 0 out
   unfolding repeatNumber
   by-lent k e n = repeat-refused k (rw (← e, ne-eqb k 0 n)) n
-
-  pub repeat-ready : fitNumber p (eqb (length out) 320) ≡ 0 → Accepted p × (length out ≡ 320)
-  repeat-ready e = let f = fit-exact p (eqb (length out) 320) .none .0 e in (f .0, eqb-true (length out) 320 (f .1))
 
   module _ (ok : Accepted p) (long : length out ≡ 320) where
     fine : fitNumber p (eqb (length out) 320) ≡ 0
@@ -101,7 +102,7 @@ asked : (p : List ℕ) (m r : ℕ) (out : List ℕ) → repeatNumber p m r out �
 unfolding repeatNumber templateNumber
 asked p m r out e =
     let a = number-passed (fitNumber p (eqb (length out) 320)) (templateNumber p m r) e in
-    let ready = repeat-ready p m r out (a .0) in
+    let ready = repeat-ready p out _ refl (a .0) in
     let b = test-passed (ltb m (size p)) 7 _ (a .1) in
     let c = test-passed (canMark p m) 22 _ (b .1) in
     let d = test-passed (timesOk r) 23 _ (c .1) in

@@ -2,18 +2,19 @@
 use mathlib.Core.Path.{_≡_, refl, sym, _∙_, ap}
 use mathlib.Core.Bool.{true}
 use mathlib.Core.List.{List}
-use Prim.Native.Nat.{ℕ, suc, _*_, _<_}
+use Prim.Native.Nat.{ℕ, zero, suc, _*_, _<_}
 use native.Mathlib.Omega.{arith}
 use lib.ListN.{length}
-use Rattle.plan.specs.Plan.{size, kindByte}
+use Rattle.plan.specs.Plan.{size, kindByte, parent, children}
 use Rattle.plan.specs.Check.{Accepted}
+use Rattle.plan.proofs.PlanLaws.{child-in}
 use Rattle.plan.proofs.AcceptedLaws.{accepted-ordered}
 use Rattle.trees.specs.Tree.{Forest, none, tree, treesBelow, treeOf, SameTree, nodeCount}
 use Rattle.trees.specs.Numbering.{planOf, renumbered, inPreorder}
 use Rattle.trees.proofs.AboveLaws.{preorder-told}
 use Rattle.trees.proofs.LaidLaws.{Laid, nothing, first, laid-alike, alike-same}
 use Rattle.trees.proofs.OrderLaws.{below-all}
-use Rattle.trees.proofs.TreeLaws.{count-all}
+use Rattle.trees.proofs.TreeLaws.{count-in, trees-step, count-all}
 use Rattle.trees.proofs.WrittenLaws.{plan-laid, plan-length, plan-size, plan-rooted, plan-ordered, plan-preorder, plan-tree}
 use Rattle.trees.proofs.SoundLaws.{Sound, accepted-sound, sound-accepted}
 
@@ -27,6 +28,20 @@ module _ (p : List ℕ) (ok : Accepted p) where
   pub below-count : suc (nodeCount (treesBelow p 0)) ≡ size p
   unfolding treeOf nodeCount
   below-count = let c = count-all p (accepted-ordered p ok) in omega arith
+
+  few-within : (f v : ℕ) → v < f → v < size p → nodeCount (treesBelow p v) < size p
+  few-within zero v i l = absurd (omega arith)
+  few-within (suc f) zero i l = omega (arith, below-count)
+  few-within (suc f) (suc x) i l =
+      let b = ok .below (suc x) (omega arith) l in
+      let up = few-within f (parent p (suc x)) (omega arith) (omega arith) in
+      let c = count-in (kindByte p) (treesBelow p) (children p (parent p (suc x))) (child-in p (parent p (suc x)) (record { low = omega arith; high = l; of = refl })) in
+      let e = ap nodeCount (trees-step p (accepted-ordered p ok) (parent p (suc x)) (omega arith)) in
+      omega arith
+
+  -- below any node there are fewer than all
+  pub below-few : (v : ℕ) → v < size p → nodeCount (treesBelow p v) < size p
+  below-few v l = few-within (suc v) v (omega arith) l
 
   few : nodeCount (treesBelow p 0) < 160
   few = let f = ok .few in omega (arith, below-count)

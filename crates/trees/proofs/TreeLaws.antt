@@ -1,5 +1,5 @@
 -- The tree of a plan without a bound on its levels, and that it has as many nodes as the plan. Assumes nothing.
-use mathlib.Core.Path.{_≡_, refl, sym, _∙_}
+use mathlib.Core.Path.{_≡_, refl, sym, _∙_, ap}
 use mathlib.Core.List.{List, [], _∷_}
 use Prim.Native.Nat.{ℕ, zero, suc, _+_, _-_, _≤_, _<_}
 use native.Mathlib.Omega.{arith}
@@ -19,6 +19,12 @@ pub trees-same : (kind : ℕ → ℕ) (a b : ℕ → Forest) (cs : List ℕ) →
 unfolding treesOf
 trees-same kind a b [] h = refl
 trees-same kind a b (c ∷ cs) h = rw (h c (here refl), trees-same kind a b cs (λ x i. h x (there i)))
+
+-- each of the trees has fewer nodes below its top than there are in all
+pub count-in : (kind : ℕ → ℕ) (below : ℕ → Forest) (cs : List ℕ) {c : ℕ} → In c cs → nodeCount (below c) < nodeCount (treesOf kind below cs)
+unfolding treesOf nodeCount
+count-in kind below (x ∷ cs) (here q) = omega (arith, ap (λ y. nodeCount (below y)) q)
+count-in kind below (x ∷ cs) (there i) = omega (arith, count-in kind below cs i)
 
 -- the sum of f below n
 total : (ℕ → ℕ) → ℕ → ℕ

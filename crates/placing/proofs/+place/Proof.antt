@@ -5,19 +5,21 @@ use Prim.Native.Nat.{ℕ, _-_, _<_}
 use native.Mathlib.Omega.{arith}
 use lib.ListN.{length}
 use Rattle.plan.specs.Plan.{size}
+use Rattle.plan.proofs.AcceptedLaws.{accepted-ordered}
 use Rattle.links.specs.Links.{ledTo}
-use Rattle.convert.proofs.LineLaws.{withLine}
-use Rattle.convert.proofs.PlaceLaws.{place-small, place-node, place-room, Walking, walk-first, Turn, walk-long, walk-end, walk-within, walk-ready, walk-leaf, walk-falls, walk-less, walk-turn}
+use Rattle.trees.specs.Tree.{treesBelow}
+use Rattle.trees.proofs.TreeLaws.{trees-step}
+use Rattle.placing.proofs.PlaceLaws.{withLine, place-small, place-node, place-room, Walking, walk-first, Turn, walk-long, walk-end, walk-within, walk-ready, walk-bare, walk-leaf, walk-falls, walk-less, walk-turn, bare-below}
 use borrow.Fn.Kinds.{In}
 use borrow.Fn.PlainCycle.{Measures, is, falls, and}
-use Rattle.convert.proofs.place.Reads as place
-use Rattle.convert.proofs.place.Kinds as kinds
-use Rattle.convert.proofs.+place.Lts-place as lts
+use Rattle.placing.proofs.place.Reads as place
+use Rattle.placing.proofs.place.Kinds as kinds
+use Rattle.placing.proofs.+place.Lts-place as lts
 use Rattle.checker.proofs.kind_at.Reads as kind-at-reads
-use Rattle.convert.proofs.set_line.Reads as set-line-reads
+use Rattle.placing.proofs.set_line.Reads as set-line-reads
 use Rattle.plan.proofs.wide.Reads as wide-reads
-use Rattle.convert.proofs.+place.{statement}
-use Rattle.convert.proofs.+place.Tie.{close}
+use Rattle.placing.proofs.+place.{statement}
+use Rattle.placing.proofs.+place.Tie.{close}
 
 abbrev below-node : Measures 4 kinds.ps ℕ
 below-node κs a = size (a .0 .now) - a .1 .1 .1 .1 .0
@@ -44,7 +46,7 @@ below-at : {x y t : ℕ} → y ≡ t → x < y → x < t
 below-at e h = omega arith
 
 abbrev Inv : lts.InvT-loop
-Inv plan first next out₀ v u n w₀ c₀ out w c = Walking plan out₀ v n out w c
+Inv plan first next out₀ v u n w₀ c₀ out w c = Walking plan (treesBelow plan) out₀ v n out w c
 
 abbrev μ : lts.MeasureT-loop
 μ plan first next out₀ v u n w₀ c₀ out w c = length (ledTo plan v c)
@@ -65,11 +67,13 @@ wide-requires : (t : ℕ) → lts.Need-wide-requires (callees t) (here t) place.
 wide-requires t c κs = tt
 
 loop-holds : (t : ℕ) → lts.Need-loop-holds (callees t) (here t) place.Post Inv μ
-loop-holds t c = walk-first (c .before .before .before .before .before .before .before .before .before .pre .1) _ _ _ (omega arith) (c .wide .ensures)
+loop-holds t c =
+    let r = c .before .before .before .before .before .before .before .before .before .pre .1 in
+    walk-first r (trees-step _ (accepted-ordered _ (r .accepted)) _ (r .node)) _ _ _ (omega arith) (c .wide .ensures)
 
 -- the loop, anywhere
 turn : (t : ℕ) (c : lts.At-loop (callees t) (here t) place.Post Inv μ) →
-    Turn (c .before .before .before .before .before .before .before .before .before .before .args .plan .now) (c .before .before .before .before .before .before .before .before .before .before .args .first .now) (c .before .before .before .before .before .before .before .before .before .before .args .next .now) (c .before .before .before .before .before .before .before .before .before .before .args .out .now) (c .before .before .before .before .before .set-line .last .0) (c .before .before .before .before .before .before .before .before .before .before .args .v) (c .before .before .before .before .before .before .before .before .before .before .args .u) (c .before .before .before .before .before .before .before .before .before .before .args .n) (c .loop .out) (c .loop .w) (c .loop .c)
+    Turn (c .before .before .before .before .before .before .before .before .before .before .args .plan .now) (treesBelow (c .before .before .before .before .before .before .before .before .before .before .args .plan .now)) (c .before .before .before .before .before .before .before .before .before .before .args .first .now) (c .before .before .before .before .before .before .before .before .before .before .args .next .now) (c .before .before .before .before .before .before .before .before .before .before .args .out .now) (c .before .before .before .before .before .set-line .last .0) (c .before .before .before .before .before .before .before .before .before .before .args .v) (c .before .before .before .before .before .before .before .before .before .before .args .u) (c .before .before .before .before .before .before .before .before .before .before .args .n) (c .loop .out) (c .loop .w) (c .loop .c)
 turn t c = record {
   ready = c .before .before .before .before .before .before .before .before .before .before .pre .1;
   begun = c .before .before .before .before .before .set-line .ensures ∙ ap (λ k. withLine (c .before .before .before .before .before .before .before .before .before .before .args .out .now) (c .before .before .before .before .before .before .before .before .before .before .args .n) k (c .before .before .before .before .before .before .before .before .before .before .args .u)) (c .before .before .before .before .before .before .kind-at .ensures);
@@ -109,8 +113,9 @@ loop-less t c = rw (c .wide2 .ensures) (walk-less (turn t (c .before .before .be
 loop-again : (t : ℕ) → lts.Need-loop-again (callees t) (here t) place.Post Inv μ
 loop-again t c =
     let l = c .before .before .before .before .loop-test .taken in
-    rw (c .wide2 .ensures) (walk-turn (turn t (c .before .before .before .before .before)) l _ _ (⊎-elim
-    (λ h. rw (h .6, h .3 .ensures, h .7) (walk-leaf (turn t (c .before .before .before .before .before)) l (h .0 .taken) _ (h .2 .ensures)))
+    let t = turn t (c .before .before .before .before .before) in
+    rw (c .wide2 .ensures) (walk-turn t l _ _ (⊎-elim
+    (λ h. rw (h .6, h .3 .ensures, h .7) (walk-leaf t l (bare-below _ (t .ready .accepted) _ (t .walk .child l .high) (walk-bare t l (h .0 .taken))) _ (h .2 .ensures)))
     (λ h. rw (h .5, h .6) (h .2 .ensures))
     (c .before .before .if1 .came)))
 

@@ -1,2 +1,0 @@
--- Letters: p a plan, first and next its links, v a node, u its parent's new number, n its own, out the lent bytes, r the number behind its tree.
-pub mod Place

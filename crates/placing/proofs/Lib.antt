@@ -1,0 +1,2 @@
+-- Laws that the proofs here and in upper crates cite.
+pub mod PlaceLaws
