@@ -1,8 +1,8 @@
 /*
  * What include/vulcedar.h and docs/GUIDE.md say about calling, tried: null pointers with length 0, where a result has a
  * site, the rule beside a guard, the common table, the version, a journal and its points, plans with desks, one answer of a
- * pass changed, the way to each target of a plan, one tree in each of its numberings, depth forms, and what a false message
- * does. Compiled as C and as C++.
+ * pass changed, the way to each target of a plan, one tree in each of its numberings, depth forms, templates that are
+ * repeated, and what a false message does. Compiled as C and as C++.
  */
 #include <inttypes.h>
 #include <stdio.h>
@@ -20,6 +20,7 @@ LAYOUT(limits, VULCEDAR_POINTS_MOST == 16 && VULCEDAR_NAME_LENGTH == 8 && VULCED
 LAYOUT(marks, VULCEDAR_BAD_MARKS == 28 && VULCEDAR_BAD_ANSWER == 13 && VULCEDAR_BAD_PICK == 14);
 LAYOUT(targets, VULCEDAR_BAD_TARGET == 29 && VULCEDAR_NO_WAY == 30);
 LAYOUT(forms, VULCEDAR_BAD_DEPTH == 17 && VULCEDAR_NOT_RENUMBERED == 18);
+LAYOUT(templates, VULCEDAR_NOT_REPEATABLE == 23 && VULCEDAR_BAD_COUNT == 24 && VULCEDAR_TOO_MANY_NODES == 25 && VULCEDAR_PLAN_MOST == 2 * VULCEDAR_NODES_MOST);
 LAYOUT(desks, VULCEDAR_DESK_HIGHEST == 0x9f && VULCEDAR_BAD_DESK == 22 && VULCEDAR_DESK_HIGHEST + 1 == VULCEDAR_NODES_MOST);
 
 static int wrong;
@@ -52,6 +53,7 @@ static void nulls(void)
     expect("renumbering of nothing", vulcedar_renumber(NULL, 0, NULL, 0), VULCEDAR_BAD_LENGTH);
     expect("depth form of nothing", vulcedar_to_depths(NULL, 0, NULL, 0), VULCEDAR_BAD_LENGTH);
     expect("plan of no depth form", vulcedar_from_depths(NULL, 0, NULL, 0), VULCEDAR_BAD_LENGTH);
+    expect("repeating of nothing", vulcedar_repeat(NULL, 0, 0, 1, NULL, 0), VULCEDAR_BAD_LENGTH);
     expect("depths of nothing", vulcedar_check_depths(NULL, 0, NULL, 0), VULCEDAR_BAD_LENGTH);
     expect("guard of nothing", vulcedar_guard(NULL, 0, VULCEDAR_START, 0, NULL, 0), VULCEDAR_BAD_LENGTH);
     expect("rule of nothing", vulcedar_rule(NULL, 0, VULCEDAR_START, 0), VULCEDAR_BAD_LENGTH);
@@ -80,6 +82,7 @@ static void nulls(void)
     expect("renumbering into nothing", vulcedar_renumber(plan, sizeof plan, NULL, 0), VULCEDAR_BAD_BUFFER);
     expect("depth form into nothing", vulcedar_to_depths(plan, sizeof plan, NULL, 0), VULCEDAR_BAD_BUFFER);
     expect("plan of a depth form into nothing", vulcedar_from_depths(form, sizeof form, NULL, 0), VULCEDAR_BAD_BUFFER);
+    expect("repeating into nothing", vulcedar_repeat(plan, sizeof plan, 0, 1, NULL, 0), VULCEDAR_BAD_BUFFER);
     expect("depths into nothing", vulcedar_check_depths(plan, sizeof plan, NULL, 0), VULCEDAR_BAD_BUFFER);
     expect("guard into nothing", vulcedar_guard(plan, sizeof plan, VULCEDAR_START, 0, NULL, 0), VULCEDAR_BAD_BUFFER);
     expect("step on nothing", vulcedar_step(plan, sizeof plan, VULCEDAR_START, 0, NULL, 0), VULCEDAR_BAD_BUFFER);
@@ -802,6 +805,95 @@ static void refused_forms(void)
     }
 }
 
+/* Repeats a template into out_len bytes: those behind the plan are left, and all where it is refused. The plan written is accepted
+   and in the fixed numbering; with a count of 1 it is the template renumbered. */
+static uint32_t repeat(const uint8_t *plan, size_t plan_len, uint32_t node, uint32_t count, uint8_t out[VULCEDAR_PLAN_MOST], size_t out_len)
+{
+    uint8_t room[2 * VULCEDAR_PLAN_MOST], left[sizeof room], again[VULCEDAR_PLAN_MOST];
+    memset(left, 99, sizeof left);
+    memset(room, 99, sizeof room);
+    uint32_t r = vulcedar_repeat(plan, plan_len, node, count, room, out_len);
+    size_t written = VULCEDAR_NUMBER(r) == VULCEDAR_PASSED ? 2 * VULCEDAR_VALUE(r) : 0;
+    expect("bytes behind a repeated plan are left", memcmp(room + written, left, sizeof room - written) == 0, 1);
+    if (written == 0) return r;
+    expect("a passed result has nothing else", r, result(VULCEDAR_PASSED, 0, VULCEDAR_VALUE(r)));
+    expect("a repeated plan", vulcedar_check(room, written), VULCEDAR_PASSED);
+    expect("renumbering it", vulcedar_renumber(room, written, again, written), VULCEDAR_PASSED);
+    expect("leaves it", memcmp(again, room, written) == 0, 1);
+    if (count == 1) expect("renumbering a template", vulcedar_renumber(plan, plan_len, again, plan_len), VULCEDAR_PASSED);
+    if (count == 1) expect("is its plan", written == plan_len && memcmp(again, room, written) == 0, 1);
+    memcpy(out, room, written);
+    return r;
+}
+
+/* A serial of a marked block and a task; below the block a serial of two tasks. The last task stands before these. */
+static const uint8_t marked[] = {
+    VULCEDAR_SERIAL, VULCEDAR_NO_PARENT, VULCEDAR_AND, 0, VULCEDAR_TASK, 0, VULCEDAR_SERIAL, 1, VULCEDAR_TASK, 3, VULCEDAR_TASK, 3,
+};
+enum { CHANNEL = 3, AROUND = sizeof marked / 2 - CHANNEL }; /* nodes below the marked block, and all others */
+
+/* Every count of each kind of block: where each node of the repeated plan stands, and what its parent is. */
+static void repeated(void)
+{
+    static const uint8_t kinds[] = { VULCEDAR_AND, VULCEDAR_OR, VULCEDAR_XOR, VULCEDAR_WAITING_AND };
+    uint8_t plan[sizeof marked], out[VULCEDAR_PLAN_MOST];
+    memcpy(plan, marked, sizeof marked);
+    for (size_t k = 0; k < sizeof kinds; k++)
+        for (uint32_t count = 1; count <= VULCEDAR_CHILDREN_MOST; count++) {
+            uint32_t nodes = AROUND + CHANNEL * count;
+            plan[2] = kinds[k];
+            expect("a template", repeat(plan, sizeof plan, 1, count, out, sizeof out), result(VULCEDAR_PASSED, 0, nodes));
+            expect("the block", out[2] == kinds[k] && out[3] == 0, 1);
+            for (size_t v = 2; v + 1 < nodes; v++) {
+                size_t first = v - (v - 2) % CHANNEL; /* of this copy */
+                expect("a kind", out[2 * v], v == first ? VULCEDAR_SERIAL : VULCEDAR_TASK);
+                expect("a parent", out[2 * v + 1], v == first ? 1 : byte_of(first));
+            }
+            expect("the task behind", out[2 * nodes - 2] == VULCEDAR_TASK && out[2 * nodes - 1] == 0, 1);
+        }
+}
+
+/* The numbers of a template, each before the next; no number is cut. */
+static void not_repeated(void)
+{
+    static const uint32_t no_nodes[] = { 6, 7, 160, 255, 256, 257, 0x10001u, 0x80000001u, 0xffffffffu };
+    static const uint32_t no_counts[] = { 0, 33, 34, 255, 256, 257, 0x10001u, 0x80000001u, 0xffffffffu };
+    static const uint8_t contingency[] = { VULCEDAR_CONTINGENCY, VULCEDAR_NO_PARENT, VULCEDAR_TASK, 0 };
+    static const uint8_t conditional[] = { VULCEDAR_CONDITIONAL, VULCEDAR_NO_PARENT, VULCEDAR_TASK, 0, VULCEDAR_TASK, 0 };
+    static const uint8_t two[] = { VULCEDAR_AND, VULCEDAR_NO_PARENT, VULCEDAR_TASK, 0, VULCEDAR_TASK, 0 };
+    uint8_t out[VULCEDAR_PLAN_MOST], large[VULCEDAR_PLAN_MOST + 2] = { VULCEDAR_OR, VULCEDAR_NO_PARENT, VULCEDAR_SERIAL, 0 };
+    for (size_t length = 0; length < 10; length++) /* cut anywhere, a block has no child */
+        expect("a plan before all else", repeat(marked, length, 99, 0, out, 5), length % 2 || length == 0 ? VULCEDAR_BAD_LENGTH : VULCEDAR_BAD_CHILDREN);
+    for (size_t length = 0; length < 2 * VULCEDAR_PLAN_MOST; length++) {
+        if (length == VULCEDAR_PLAN_MOST) continue;
+        expect("a repeated plan's length", repeat(marked, sizeof marked, 1, 2, out, length), VULCEDAR_BAD_BUFFER);
+        expect("7 before 8", repeat(marked, sizeof marked, 6, 0, out, length), VULCEDAR_BAD_BUFFER);
+    }
+    for (size_t i = 0; i < sizeof no_nodes / sizeof no_nodes[0]; i++) {
+        expect("no such node", repeat(marked, sizeof marked, no_nodes[i], 2, out, sizeof out), VULCEDAR_NOT_IN_PLAN);
+        expect("8 before 24", repeat(marked, sizeof marked, no_nodes[i], 0, out, sizeof out), VULCEDAR_NOT_IN_PLAN);
+    }
+    for (uint32_t count = 0; count <= 33; count++) { /* with each of these counts 23 comes first */
+        for (uint32_t node = 0; node < 6; node++)
+            if (node != 1) expect("no block for it", repeat(marked, sizeof marked, node, count, out, sizeof out), VULCEDAR_NOT_REPEATABLE);
+        expect("a contingency", repeat(contingency, sizeof contingency, 0, count, out, sizeof out), VULCEDAR_NOT_REPEATABLE);
+        expect("a conditional", repeat(conditional, sizeof conditional, 0, count, out, sizeof out), VULCEDAR_NOT_REPEATABLE);
+        expect("two children", repeat(two, sizeof two, 0, count, out, sizeof out), VULCEDAR_NOT_REPEATABLE);
+    }
+    for (size_t v = 2; v < 34; v++) large[2 * v] = VULCEDAR_TASK, large[2 * v + 1] = 1; /* a channel of 33 nodes */
+    for (size_t i = 0; i < sizeof no_counts / sizeof no_counts[0]; i++) {
+        expect("no such count", repeat(marked, sizeof marked, 1, no_counts[i], out, sizeof out), VULCEDAR_BAD_COUNT);
+        expect("24 before 25", repeat(large, 68, 0, no_counts[i], out, sizeof out), VULCEDAR_BAD_COUNT);
+    }
+    for (uint32_t count = 1; count <= VULCEDAR_CHILDREN_MOST; count++) {
+        uint32_t nodes = 1 + 33 * count, five = 1 + 5 * count; /* and one of five: 156 nodes and 161 */
+        uint32_t r = nodes > VULCEDAR_NODES_MOST ? result(VULCEDAR_TOO_MANY_NODES, 0, 0) : result(VULCEDAR_PASSED, 0, nodes);
+        expect("a large channel", repeat(large, 68, 0, count, out, sizeof out), r);
+        r = five > VULCEDAR_NODES_MOST ? result(VULCEDAR_TOO_MANY_NODES, 0, 0) : result(VULCEDAR_PASSED, 0, five);
+        expect("one of five", repeat(large, 12, 0, count, out, sizeof out), r);
+    }
+}
+
 /* Task 1, then task 2: site 2 is told that 1 committed, which it did not, and the block commits without it. */
 static void false_message(void)
 {
@@ -852,7 +944,9 @@ int main(void)
     no_targets();
     forms();
     refused_forms();
+    repeated();
+    not_repeated();
     false_message();
-    if (wrong == 0) printf("header: nulls, parts of results, a journal, its points, tables, desks, a changed answer, ways, forms of a plan, the version and a false message are as it says\n");
+    if (wrong == 0) printf("header: nulls, parts of results, a journal, its points, tables, desks, a changed answer, ways, forms of a plan, repeated templates, the version and a false message are as it says\n");
     return wrong == 0 ? 0 : 1;
 }

@@ -1,7 +1,8 @@
 /*
  * How much stack a call takes: every exported function is called on a painted stack of its own, for plans of 160 nodes as
  * deep and as wide as they may be, and for every event of them, refused and passed; with desks, three nodes share one. An answer
- * is changed for every node, and a way is looked for to every target. Prints the deepest of each function; fails if one is above
+ * is changed for every node, and a way is looked for to every target. Templates are repeated up to 160 nodes, as deep and as wide
+ * as they may be, and beyond. Prints the deepest of each function; fails if one is above
  * what the header says. Symbols must be bound beforehand (-Wl,-z,now): the loader's own stack is not the library's.
  */
 #define _GNU_SOURCE
@@ -17,6 +18,8 @@ enum { NODES = VULCEDAR_NODES_MOST };
 
 static uint8_t plan[2 * NODES], row[NODES], marks[NODES], notes[NODES], classes[NODES], answers[NODES], out[2 * NODES];
 static uint8_t fixed[2 * NODES], depths[2 * NODES]; /* the plan in the fixed numbering, and its depth form */
+static uint8_t drawn[2 * NODES]; /* a template, its marked node, and how many times its channel fits */
+static uint32_t drawn_nodes, marked, times;
 static uint8_t passed[NODES]; /* the marks of the pass over the answers */
 static uint8_t with_desks[3 * NODES], desk_state[NODES * NODES]; /* the same plan with desks */
 static size_t desk_len; /* of that state */
@@ -36,6 +39,8 @@ static void renumber(void) { answer = vulcedar_renumber(plan, 2 * nodes, out, 2 
 static void to_depths(void) { answer = vulcedar_to_depths(fixed, 2 * nodes, out, 2 * nodes); }
 static void not_renumbered(void) { answer = vulcedar_to_depths(plan, 2 * nodes, out, 2 * nodes); }
 static void from_depths(void) { answer = vulcedar_from_depths(depths, 2 * nodes, out, 2 * nodes); }
+static void repeat(void) { answer = vulcedar_repeat(drawn, 2 * drawn_nodes, marked, times, out, sizeof out); }
+static void repeat_too_often(void) { answer = vulcedar_repeat(drawn, 2 * drawn_nodes, marked, times + 1, out, sizeof out); }
 static void check_depths(void) { answer = vulcedar_check_depths(plan, 2 * nodes, out, nodes); }
 static void guard(void) { answer = vulcedar_guard(plan, 2 * nodes, code, node, buf, sizeof buf); }
 static void short_guard(void) { answer = vulcedar_guard(plan, 2 * nodes, code, node, buf, sizeof buf - 1); }
@@ -82,6 +87,7 @@ static void rehearse(void) { answer = vulcedar_rehearse(text, text_len, printed,
 static struct call { const char *name; void (*run)(void); int events; size_t most; } calls[] = {
     { "check", check, 0, 0 }, { "rewrite", rewrite, 0, 0 }, { "check_depths", check_depths, 0, 0 },
     { "renumber", renumber, 0, 0 }, { "to_depths", to_depths, 0, 0 }, { "to_depths (as it is)", not_renumbered, 0, 0 }, { "from_depths", from_depths, 0, 0 },
+    { "repeat", repeat, 0, 0 }, { "repeat (too often)", repeat_too_often, 0, 0 },
     { "guard", guard, 1, 0 }, { "guard (short buffer)", short_guard, 1, 0 }, { "rule", rule, 1, 0 }, { "step", step, 1, 0 },
     { "hear", hear, 1, 0 }, { "pass", pass, 0, 0 }, { "impact", impact, 1, 0 }, { "way", find, 2, 0 }, { "simulate (event)", happen, 1, 0 }, { "simulate (message)", tell, 1, 0 },
     { "keep (event)", keep_event, 1, 0 }, { "keep (message)", keep_message, 1, 0 },
@@ -186,6 +192,22 @@ static void wide(uint32_t kind)
     while (nodes < NODES) add(VULCEDAR_TASK, 1 + (nodes - 33) / 32);
 }
 
+/* A template: a chain of so many serials, the marked block, and a chain of so many more with tasks at its end. The tasks of the
+   serials above come last, so that the numbering is not the fixed one. */
+static void draw(uint32_t above, uint32_t below, uint32_t tasks)
+{
+    uint32_t chain = above + 1 + below, all = chain + tasks + above;
+    for (uint32_t v = 0; v < all; v++) {
+        uint32_t parent = v == 0 ? VULCEDAR_NO_PARENT : v < chain ? v - 1 : v < chain + tasks ? chain - 1 : v - chain - tasks;
+        drawn[2 * v] = (uint8_t)(v == above ? VULCEDAR_AND : v < chain ? VULCEDAR_SERIAL : VULCEDAR_TASK);
+        drawn[2 * v + 1] = (uint8_t)parent;
+    }
+    drawn_nodes = all;
+    marked = above;
+    times = (NODES - 2 * above - 1) / (below + tasks);
+    if (times > VULCEDAR_CHILDREN_MOST) times = VULCEDAR_CHILDREN_MOST;
+}
+
 /* The plan as a text, with as many steps as fit behind it, every event in turn and every message. */
 static void write_text(void)
 {
@@ -216,6 +238,8 @@ static void measure_plan(size_t none)
     r = vulcedar_renumber(plan, 2 * nodes, fixed, 2 * nodes);
     if (r == VULCEDAR_PASSED) r = vulcedar_to_depths(fixed, 2 * nodes, depths, 2 * nodes);
     if (r != VULCEDAR_PASSED) printf("stack: a plan has no depth form: %u\n", r), exit(1);
+    r = vulcedar_repeat(drawn, 2 * drawn_nodes, marked, times, out, sizeof out);
+    if (VULCEDAR_NUMBER(r) != VULCEDAR_PASSED) printf("stack: a template is refused with %u\n", VULCEDAR_NUMBER(r)), exit(1);
     seat();
     r = vulcedar_desk_record(with_desks, 3 * nodes, desk_state, desk_len, marks, nodes, classes, nodes);
     if (r != VULCEDAR_PASSED) printf("stack: a plan with desks is refused with %u\n", r), exit(1);
@@ -233,11 +257,11 @@ int main(void)
     size_t none = touched(nothing);
     int over = 0;
     for (uint32_t kind = VULCEDAR_SERIAL; kind <= VULCEDAR_WAITING_AND; kind++) {
-        deep(kind, 1), measure_plan(none);
+        deep(kind, 1), draw(30, 0, 1), measure_plan(none); /* the channel is a task at depth 32 */
         if (kind == VULCEDAR_CONDITIONAL) continue;
-        deep(kind, 0), measure_plan(none);
-        deep(kind, 3), measure_plan(none);
-        wide(kind), measure_plan(none);
+        deep(kind, 0), draw(0, 30, 1), measure_plan(none); /* it reaches from depth 2 to 32 */
+        deep(kind, 3), draw(3, 1, 16), measure_plan(none); /* nine of 17 nodes, 160 in all */
+        wide(kind), draw(0, 1, 4), measure_plan(none);     /* 31 of five */
     }
     for (size_t c = 0; c < CALLS; c++) {
         printf("%-24s %6zu bytes of %zu\n", calls[c].name, calls[c].most, granted(calls[c].run));

@@ -24,6 +24,14 @@ pub struct PlacedStep {
     pub place: usize,
 }
 
+/// A plan, its marked node, and how many times the child's subtree is to stand.
+#[derive(Clone)]
+pub struct Template {
+    pub plan: Vec<u8>,
+    pub node: u32,
+    pub count: u32,
+}
+
 /// What the functions are measured on.
 #[derive(Clone)]
 pub struct Fixture {
@@ -34,6 +42,8 @@ pub struct Fixture {
     pub mixed: Vec<u8>,
     /// The plain plan's depth form.
     pub depths: Vec<u8>,
+    /// A template in no order that comes to as many nodes as the plan has.
+    pub template: Template,
     pub nodes: usize,
     /// All events that apply, with the row by which each is decided.
     pub events: Vec<(u32, u32, usize)>,
@@ -94,6 +104,7 @@ impl Fixture {
             form,
             mixed,
             depths,
+            template: template(nodes),
             nodes,
             events,
             steps,
@@ -117,6 +128,21 @@ fn forms(plan: &[u8]) -> (Vec<u8>, Vec<u8>) {
     let mut depths = vec![0; plan.len()];
     assert_eq!(Reference.to_depths(plan, &mut depths), 0);
     (mixed, depths)
+}
+
+/// A serial of a task, the marked block and a task, in no order. Below the block stands
+/// a channel, a serial of tasks.
+fn template(nodes: usize) -> Template {
+    let count = match nodes {
+        ..40 => 2,
+        40..100 => 4,
+        _ => 12,
+    };
+    let tasks = (nodes - 4) / count - 1;
+    let plan = [vec![SERIAL, 0xff, TASK, 0, AND, 0, TASK, 0, SERIAL, 2], [TASK, 4].repeat(tasks)].concat();
+    let plan = plans::mixed_numbering(&mut Random::new(nodes as u64), &plan);
+    let node = plan.iter().step_by(2).position(|&kind| kind == AND).expect("one block is marked");
+    Template { plan, node: node as u32, count: count as u32 }
 }
 
 /// A plan with desks: about three nodes share one, and neither they nor the
@@ -269,6 +295,9 @@ mod tests {
             let mut renumbered = vec![0; 2 * nodes];
             assert_eq!(Reference.renumber(&fixture.mixed, &mut renumbered), 0, "{nodes}");
             assert!(renumbered == fixture.plan && !plans::is_fixed(&fixture.mixed), "{nodes}");
+            let Template { plan, node, count } = &fixture.template;
+            let result = Reference.repeat(plan, *node, *count, &mut [0; 320]);
+            assert!(result == (nodes as u32) << 16 && *count > 1 && !plans::is_fixed(plan), "{nodes}");
             let mut answers = vec![0; nodes];
             let mut number = |&wanted: &Wanted| Reference.way(&fixture.plan, wanted, &mut answers);
             assert!(fixture.ways.len() == 2 * nodes && fixture.no_ways.len() > nodes / 2, "{nodes}");

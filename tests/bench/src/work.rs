@@ -1,7 +1,7 @@
 //! A round of calls of one function. Every call begins with the same bytes:
 //! what a call changed is put back at once. Nothing allocates.
 
-use crate::fixture::{Fixture, PlacedStep};
+use crate::fixture::{Fixture, PlacedStep, Template};
 use differential::Implementation;
 use differential::driver::Step;
 use differential::implementation::{Change, Entry, Slots, Wanted};
@@ -11,13 +11,14 @@ use differential::texts::OUT_BYTES;
 use std::hint::black_box;
 
 /// The measured functions.
-pub const NAMES: [&str; 35] = [
+pub const NAMES: [&str; 36] = [
     "check",
     "depths",
     "rewrite",
     "renumber",
     "to_depths",
     "from_depths",
+    "repeat",
     "guard",
     "rule",
     "step",
@@ -85,6 +86,7 @@ pub struct Work {
     out: Vec<u8>,
     more: Vec<u8>,
     rewritten: Vec<u8>,
+    repeated: [u8; 320],
     lines: Vec<u8>,
     entries: Vec<Entry>,
     points: Points,
@@ -132,6 +134,7 @@ impl Work {
             out: vec![0; nodes],
             more: vec![0; nodes],
             rewritten: vec![0; 2 * nodes],
+            repeated: [0; 320],
             lines: vec![0; OUT_BYTES],
             entries: vec![[0; 4]; PLACES],
             points: Points::at(&POINTS),
@@ -143,7 +146,7 @@ impl Work {
     pub fn calls(&self) -> usize {
         match self.function {
             "check" | "depths" | "rewrite" | "renumber" | "to_depths" | "from_depths" => CALLS,
-            "pass" | "record" | "record_by" => CALLS,
+            "repeat" | "pass" | "record" | "record_by" => CALLS,
             "check_table" | "pass_record" | "point_name" | "point_full" => CALLS,
             "rehearse" => 1,
             "impact" => 2 * self.fixture.tasks.len(),
@@ -174,6 +177,10 @@ impl Work {
             "from_depths" => self.repeat(|work| {
                 let depths = black_box(&work.fixture.depths);
                 subject.from_depths(depths, &mut work.rewritten) + u32::from(work.rewritten[5])
+            }),
+            "repeat" => self.repeat(|work| {
+                let Template { plan, node, count } = black_box(&work.fixture.template);
+                subject.repeat(plan, *node, *count, &mut work.repeated) + u32::from(work.repeated[5])
             }),
             "depths" => {
                 self.repeat(|work| subject.check_depths(black_box(&work.fixture.plan), &mut work.out))

@@ -32,6 +32,10 @@ impl Implementation for Archive {
         vulcedar::from_depths(depths, out)
     }
 
+    fn repeat(&mut self, plan: &[u8], node: u32, count: u32, out: &mut [u8]) -> u32 {
+        vulcedar::repeat(plan, node, count, out)
+    }
+
     fn check_depths(&mut self, plan: &[u8], depths: &mut [u8]) -> u32 {
         vulcedar::check_depths(plan, depths)
     }

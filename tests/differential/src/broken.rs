@@ -13,6 +13,7 @@ mod desks;
 mod forms;
 mod impact;
 mod points;
+mod repeat;
 mod way;
 
 /// A mistake: those the document warns of, its worthless versions, and slips
@@ -612,11 +613,99 @@ pub enum Mistake {
     FormIntoMore,
     /// The plan of a depth form comes with its number of nodes as a value.
     FormAnswersLines,
+    /// A serial or a contingency with one child can be marked.
+    SerialsRepeated,
+    /// An or can't be marked.
+    OrNotRepeated,
+    /// An xor can't be marked.
+    XorNotRepeated,
+    /// A waiting and can't be marked.
+    WaitingAndNotRepeated,
+    /// The root can't be marked.
+    RootNotMarked,
+    /// A block with several children can be marked; all of them are repeated.
+    SeveralChildrenRepeated,
+    /// A block with several children can be marked; the first of them is repeated.
+    FirstChildRepeated,
+    /// The node that is named is the child, and its parent the marked block.
+    ChildIsMarked,
+    /// A task that is marked is 9.
+    MarkedTaskIs9,
+    /// A marked node that is not there is 23.
+    NoSuchNodeIs23,
+    /// The marked node is named by its number in the fixed numbering.
+    MarkByTheNewNumber,
+    /// Only the lowest byte of the marked node counts.
+    MarkCut,
+    /// Only the lowest byte of the count counts.
+    CountCut,
+    /// A count of 0 is taken for 1.
+    CountOfNone,
+    /// A count of 33 passes.
+    CountTo33,
+    /// A count of 32 is refused.
+    CountBelow32,
+    /// The child's subtree stands once more than the count says.
+    OneTimeMore,
+    /// A repeated plan of 160 nodes is refused.
+    FullPlanRefused,
+    /// The size of the repeated plan is taken for that of so many templates.
+    SizeOfWholeTemplates,
+    /// A repeated plan that would be too large is 1.
+    TooManyNodesIs1,
+    /// For a repeated plan 7 is found before what is wrong with the plan.
+    RepeatLengthFirst,
+    /// 8 of the marked node comes before 7.
+    NodeBeforeLength,
+    /// 7 comes after 25.
+    RepeatLengthLast,
+    /// 24 comes before 8.
+    CountBeforeNode,
+    /// 24 comes before 23.
+    CountBeforeBlock,
+    /// 25 comes before 23.
+    SizeBeforeBlock,
+    /// 25 comes before 24.
+    SizeBeforeCount,
+    /// A repeated plan is written into any bytes that it fits into.
+    RepeatIntoEnough,
+    /// A repeated plan is written into more than 320 bytes.
+    RepeatIntoMore,
+    /// The bytes behind a repeated plan become 0.
+    RepeatClearsTheRest,
+    /// A repeated plan that is refused with 25 has been written as far as it goes.
+    RefusedRepeatWrites,
+    /// A repeated plan comes without its number of nodes.
+    NodesLeftOut,
+    /// A repeated plan comes with its number of bytes.
+    BytesForNodes,
+    /// A repeated plan comes with the template's number of nodes.
+    NodesOfTheTemplate,
+    /// Nodes of a later copy have parents in the first one.
+    InnerParentsStay,
+    /// Nodes behind the copies have the parents that they had in the template.
+    ParentsBehindStay,
+    /// Each copy stands below the one before it.
+    CopiesBelowEachOther,
+    /// All copies but the first stand behind the plan.
+    CopiesBehindThePlan,
+    /// The template keeps its numbers, and the copies stand behind it.
+    TemplateNotRenumbered,
+    /// With a count of 1 the plan is copied.
+    OnceIsACopy,
+    /// Copies have the child without what is below it.
+    OnlyTheChildRepeated,
+    /// The marked block itself is repeated, unless it is the root.
+    BlockRepeated,
+    /// Whichever node is marked, it is taken for the first that could be.
+    FirstBlockMarked,
+    /// What stands behind the marked block is left out.
+    BehindLeftOut,
 }
 
 impl Mistake {
     /// All mistakes; the first is number 1.
-    pub const ALL: [Mistake; 293] = [
+    pub const ALL: [Mistake; 337] = [
         Mistake::CommitUnlessAbortHeard,
         Mistake::PickAtTheChild,
         Mistake::TurnedDownStillRuns,
@@ -910,6 +999,50 @@ impl Mistake {
         Mistake::OddByteOverlooked,
         Mistake::FormIntoMore,
         Mistake::FormAnswersLines,
+        Mistake::SerialsRepeated,
+        Mistake::OrNotRepeated,
+        Mistake::XorNotRepeated,
+        Mistake::WaitingAndNotRepeated,
+        Mistake::RootNotMarked,
+        Mistake::SeveralChildrenRepeated,
+        Mistake::FirstChildRepeated,
+        Mistake::ChildIsMarked,
+        Mistake::MarkedTaskIs9,
+        Mistake::NoSuchNodeIs23,
+        Mistake::MarkByTheNewNumber,
+        Mistake::MarkCut,
+        Mistake::CountCut,
+        Mistake::CountOfNone,
+        Mistake::CountTo33,
+        Mistake::CountBelow32,
+        Mistake::OneTimeMore,
+        Mistake::FullPlanRefused,
+        Mistake::SizeOfWholeTemplates,
+        Mistake::TooManyNodesIs1,
+        Mistake::RepeatLengthFirst,
+        Mistake::NodeBeforeLength,
+        Mistake::RepeatLengthLast,
+        Mistake::CountBeforeNode,
+        Mistake::CountBeforeBlock,
+        Mistake::SizeBeforeBlock,
+        Mistake::SizeBeforeCount,
+        Mistake::RepeatIntoEnough,
+        Mistake::RepeatIntoMore,
+        Mistake::RepeatClearsTheRest,
+        Mistake::RefusedRepeatWrites,
+        Mistake::NodesLeftOut,
+        Mistake::BytesForNodes,
+        Mistake::NodesOfTheTemplate,
+        Mistake::InnerParentsStay,
+        Mistake::ParentsBehindStay,
+        Mistake::CopiesBelowEachOther,
+        Mistake::CopiesBehindThePlan,
+        Mistake::TemplateNotRenumbered,
+        Mistake::OnceIsACopy,
+        Mistake::OnlyTheChildRepeated,
+        Mistake::BlockRepeated,
+        Mistake::FirstBlockMarked,
+        Mistake::BehindLeftOut,
     ];
 }
 
@@ -1482,6 +1615,10 @@ impl Implementation for Broken {
 
     fn from_depths(&mut self, depths: &[u8], out: &mut [u8]) -> u32 {
         forms::from_depths(self.mistake, depths, out)
+    }
+
+    fn repeat(&mut self, plan: &[u8], node: u32, count: u32, out: &mut [u8]) -> u32 {
+        repeat::repeat(self.mistake, plan, node, count, out)
     }
 
     fn check_depths(&mut self, plan: &[u8], depths: &mut [u8]) -> u32 {

@@ -14,12 +14,14 @@ mod desks;
 mod forms;
 mod impact;
 mod points;
+mod repeat;
 mod way;
 
 pub use desks::{damaged_plans_with_desks, lengths_with_desks, own_desks};
 pub use forms::{every_form, forms};
 pub use impact::{every_small_plan, impacts};
 pub use points::points;
+pub use repeat::{every_template, repeats};
 pub use way::{every_target, ways};
 
 /// More than the longest guard.
@@ -37,6 +39,7 @@ pub fn damaged_plans<S: Implementation, R: Implementation>(trial: &mut Trial<S, 
         trial.from_depths(&plan, &random.bytes(out_length));
         let nodes = plan.len() / 2;
         let (code, node) = event(random, nodes);
+        trial.repeat(&plan, node, code, &random.bytes(320));
         let site = if random.chance(50) { HAPPENS } else { any_node(random, nodes) };
         let (one, two) = (length(random, nodes), length(random, nodes));
         let (one, two) = (random.bytes(one), random.bytes(two));

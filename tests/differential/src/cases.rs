@@ -11,6 +11,7 @@ mod desks;
 mod forms;
 mod impact;
 mod points;
+mod repeat;
 mod way;
 
 /// Plan P of document 01.
@@ -33,12 +34,13 @@ pub fn run<S: Implementation, R: Implementation>(trial: &mut Trial<S, R>) {
     impact::run(trial);
     way::run(trial);
     forms::run(trial);
+    repeat::run(trial);
 }
 
-/// Version 1.6.0.
+/// Version 1.7.0.
 fn version<S: Implementation, R: Implementation>(trial: &mut Trial<S, R>) {
     let version = trial.version();
-    trial.tally.compare(version == 0x01_0600, || format!("the version is {version:08x}"));
+    trial.tally.compare(version == 0x01_0700, || format!("the version is {version:08x}"));
 }
 
 /// A guard: the event, its rule, and what must be written.

@@ -47,6 +47,9 @@ pub trait Implementation {
     /// Writes the plan of a depth form.
     #[allow(clippy::wrong_self_convention, reason = "it is named as in C")]
     fn from_depths(&mut self, depths: &[u8], out: &mut [u8]) -> u32;
+    /// Writes a plan in which the subtree of a marked block's only child stands so
+    /// many times.
+    fn repeat(&mut self, plan: &[u8], node: u32, count: u32, out: &mut [u8]) -> u32;
     /// Checks a plan and writes every node's depth.
     fn check_depths(&mut self, plan: &[u8], depths: &mut [u8]) -> u32;
     /// Writes a guard.
@@ -203,6 +206,10 @@ impl Implementation for Reference {
 
     fn from_depths(&mut self, depths: &[u8], out: &mut [u8]) -> u32 {
         exported::from_depths(depths, out)
+    }
+
+    fn repeat(&mut self, plan: &[u8], node: u32, count: u32, out: &mut [u8]) -> u32 {
+        exported::repeat(plan, node, count, out)
     }
 
     fn check_depths(&mut self, plan: &[u8], depths: &mut [u8]) -> u32 {

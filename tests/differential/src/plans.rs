@@ -5,9 +5,11 @@ use crate::form::HIGHEST_DESK;
 use crate::random::Random;
 
 mod forms;
+mod templates;
 
 pub use forms::{any_numbering, any_order, are_same_tree, deep, fixed, has_tree, is_fixed, mixed_numbering};
 pub use forms::{damaged_form, lines};
+pub use templates::{is_template, limit_template, repeated, template};
 
 /// The most nodes, children and levels a plan may have.
 const MOST_NODES: usize = 160;

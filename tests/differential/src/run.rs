@@ -25,6 +25,8 @@ pub const SMALL_PLANS_PART: u64 = ONLY_CHILD_PART + 2;
 pub const TARGETS_PART: u64 = ONLY_CHILD_PART + 3;
 /// The part with every small plan in every form.
 pub const SMALL_FORMS_PART: u64 = ONLY_CHILD_PART + 4;
+/// The part with every template among the small plans.
+pub const SMALL_TEMPLATES_PART: u64 = ONLY_CHILD_PART + 5;
 /// The place of the parts in which plans are rewritten, renumbered and brought
 /// into depth form.
 pub const FORMS_PART: u64 = 22;
@@ -38,6 +40,9 @@ pub const POINTS_PART: u64 = 27;
 pub const IMPACT_PART: u64 = 29;
 /// The place of the parts in which ways are looked for.
 pub const WAYS_PART: u64 = 30;
+/// The place of the parts in which templates are repeated, behind simulations of
+/// small plans.
+pub const TEMPLATES_PART: u64 = 31;
 /// The first place of the parts with desks; they end a turn.
 pub const DESKS_PART: u64 = 32;
 /// The place of the parts with calls in both forms of a plan.
@@ -94,7 +99,9 @@ pub fn run_against(subject: impl Implementation, reference: impl Implementation,
         run_part(&mut trial, options.seed, part);
         part += 1;
     }
-    for part in [ONLY_CHILD_PART, CASES_PART, SMALL_PLANS_PART, TARGETS_PART, SMALL_FORMS_PART] {
+    let fixed =
+        [ONLY_CHILD_PART, CASES_PART, SMALL_PLANS_PART, TARGETS_PART, SMALL_FORMS_PART, SMALL_TEMPLATES_PART];
+    for part in fixed {
         if trial.tally.differences() < options.enough {
             run_part(&mut trial, options.seed, part);
         }
@@ -128,6 +135,9 @@ fn run_part<S: Implementation, R: Implementation>(trial: &mut Trial<S, R>, seed:
     if part == SMALL_FORMS_PART {
         return calls::every_form(trial);
     }
+    if part == SMALL_TEMPLATES_PART {
+        return calls::every_template(trial);
+    }
     let plan = if part % (4 * TURN) == 47 { large_plan(random) } else { any_plan(random) };
     let place = part % TURN;
     if place >= DESKS_PART {
@@ -156,7 +166,10 @@ fn run_part<S: Implementation, R: Implementation>(trial: &mut Trial<S, R>, seed:
         7 => job::simulate(trial, random, &plan),
         8 | 9 => jobs(trial, random, 20, 60, 1),
         10..=15 => jobs(trial, random, 8, 20, 1),
-        _ => jobs(trial, random, 1, 8, 6),
+        TEMPLATES_PART.. => {
+            jobs(trial, random, 1, 8, 6);
+            calls::repeats(trial, random, &plan);
+        }
     }
 }
 

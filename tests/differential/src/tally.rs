@@ -18,6 +18,8 @@ pub enum Function {
     ToDepths,
     /// `vulcedar_from_depths`
     FromDepths,
+    /// `vulcedar_repeat`
+    Repeat,
     /// `vulcedar_check_depths`
     CheckDepths,
     /// `vulcedar_guard`
@@ -84,7 +86,7 @@ pub enum Function {
 }
 
 /// How many functions there are.
-const FUNCTIONS: usize = 36;
+const FUNCTIONS: usize = 37;
 /// One more than the highest number; 0 is passed.
 const NUMBERS: usize = 31;
 
@@ -96,6 +98,7 @@ impl Function {
         Function::Renumber,
         Function::ToDepths,
         Function::FromDepths,
+        Function::Repeat,
         Function::CheckDepths,
         Function::Guard,
         Function::Rule,
@@ -137,6 +140,7 @@ impl Function {
             Function::Renumber => "renumber",
             Function::ToDepths => "to_depths",
             Function::FromDepths => "from_depths",
+            Function::Repeat => "repeat",
             Function::CheckDepths => "depths",
             Function::Guard => "guard",
             Function::Rule => "rule",
@@ -191,6 +195,7 @@ impl Function {
             }
             Function::ToDepths => &[0, 1, 2, 3, 4, 5, 6, 7, 18],
             Function::FromDepths => &[0, 1, 2, 4, 5, 6, 7, 17],
+            Function::Repeat => &[0, 1, 2, 3, 4, 5, 6, 7, 8, 23, 24, 25],
             Function::RecordBy => &[0, 1, 2, 3, 4, 5, 6, 7, 21],
             Function::CheckTable => &[0, 21],
             Function::PassRecord => &[0, 1, 2, 3, 4, 5, 6, 7, 13, 14, 21],
@@ -283,6 +288,12 @@ pub struct Jobs {
     pub different_trees: u64,
     /// Depth forms that were accepted.
     pub accepted_forms: u64,
+    /// Templates that were repeated.
+    pub repeated: u64,
+    /// Of these, just as large as a plan may be.
+    pub just_full: u64,
+    /// Templates that would have come to one node more than that.
+    pub one_too_many: u64,
 }
 
 /// A count for each rule byte.
@@ -465,6 +476,11 @@ impl fmt::Display for Tally {
             jobs.same_trees,
             jobs.different_trees,
             jobs.accepted_forms
+        )?;
+        writeln!(
+            out,
+            "templates: {} repeated, {} of these to a full plan; {} would have one node too many",
+            jobs.repeated, jobs.just_full, jobs.one_too_many
         )?;
         writeln!(out, "rules of passed events: {} different", self.rules())?;
         writeln!(out, "texts: {}", self.texts)?;

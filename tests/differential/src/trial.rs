@@ -13,6 +13,7 @@ use crate::tally::{Function, Tally};
 mod forms;
 mod impact;
 mod points;
+mod repeat;
 mod way;
 
 pub use way::without_unread;

@@ -9,6 +9,7 @@ use differential::run::{
     FORMS_PART, IMPACT_PART, SMALL_FORMS_PART, SMALL_PLANS_PART, TARGETS_PART, WAYS_PART,
 };
 use differential::run::{Options, run, run_against};
+use differential::run::{SMALL_TEMPLATES_PART, TEMPLATES_PART};
 use differential::tally::Tally;
 
 /// The mistakes of the calls with points.
@@ -35,14 +36,21 @@ fn of_ways() -> impl Iterator<Item = Mistake> {
     before_forms.skip_while(|&mistake| mistake != Mistake::LargestWay)
 }
 
-/// The mistakes where a plan is brought into another form; they stand at the end.
+/// The mistakes where a plan is brought into another form.
 fn of_forms() -> impl Iterator<Item = Mistake> {
-    Mistake::ALL.into_iter().skip_while(|&mistake| mistake != Mistake::ChildrenFalling)
+    let before_templates =
+        Mistake::ALL.into_iter().take_while(|&mistake| mistake != Mistake::SerialsRepeated);
+    before_templates.skip_while(|&mistake| mistake != Mistake::ChildrenFalling)
+}
+
+/// The mistakes where a template is repeated; they stand at the end.
+fn of_templates() -> impl Iterator<Item = Mistake> {
+    Mistake::ALL.into_iter().skip_while(|&mistake| mistake != Mistake::SerialsRepeated)
 }
 
 /// The mistakes of the later calls, which have parts of their own.
 fn of_later_calls() -> impl Iterator<Item = Mistake> {
-    of_points().chain(of_desks()).chain(of_impact()).chain(of_ways()).chain(of_forms())
+    of_points().chain(of_desks()).chain(of_impact()).chain(of_ways()).chain(of_forms()).chain(of_templates())
 }
 
 /// These parts find nothing between two copies of the reference, in each of
@@ -88,6 +96,8 @@ fn two_copies_of_the_reference_agree() {
     assert!(tally.jobs.from_other_numberings > 1000, "{}", tally.jobs.from_other_numberings);
     assert!(tally.jobs.same_trees > 500 && tally.jobs.different_trees > 300, "{}", tally.jobs.same_trees);
     assert!(tally.jobs.accepted_forms > 5000, "{}", tally.jobs.accepted_forms);
+    assert!(tally.jobs.repeated > 10_000, "{}", tally.jobs.repeated);
+    assert!(tally.jobs.just_full > 50 && tally.jobs.one_too_many > 50, "{}", tally.jobs.just_full);
 }
 
 #[test]
@@ -200,7 +210,7 @@ fn a_mistake_on_both_sides_is_found() {
 fn cases_have_their_answers() {
     let options = Options { only: Some(CASES_PART), ..Options::default() };
     let tally = run(Reference, options);
-    assert_eq!((tally.comparisons(), tally.differences()), (675, 0), "{:#?}", tally.described());
+    assert_eq!((tally.comparisons(), tally.differences()), (1008, 0), "{:#?}", tally.described());
     let mistakes = [
         Mistake::VersionInTheLowestByte,
         Mistake::VersionOneHigher,
@@ -530,6 +540,46 @@ fn every_small_form_is_tried() {
         Mistake::FormIntoMore,
     ];
     for mistake in of_forms().filter(|mistake| !not_tried.contains(mistake)) {
+        let tally = run_against(Broken::new(mistake), Broken::new(mistake), options);
+        assert_ne!(tally.differences(), 0, "{mistake:?} on both sides is not found");
+    }
+}
+
+/// Repeated templates alone find what is wrong with them, even if both sides do it:
+/// by the tree, and by the check and the renumbering.
+#[test]
+fn templates_are_held_against_the_tree() {
+    let mistakes: Vec<Mistake> = of_templates().collect();
+    parts_find([TEMPLATES_PART, 20], 27, |tally| tally.jobs.repeated, &mistakes);
+}
+
+/// All small templates find these too, even if both sides make them. What they don't
+/// try are plans that are refused, other lengths, numbers that are wide or not there, and
+/// results of more than 129 nodes.
+#[test]
+fn every_small_template_is_tried() {
+    let options = Options { only: Some(SMALL_TEMPLATES_PART), enough: 1, ..Options::default() };
+    let tally = run(Reference, options);
+    assert_eq!(tally.differences(), 0, "{:#?}", tally.described());
+    assert_eq!((tally.comparisons(), tally.jobs.repeated), (170_184, 39_580));
+    let not_tried = [
+        Mistake::NoSuchNodeIs23,
+        Mistake::MarkCut,
+        Mistake::CountCut,
+        Mistake::FullPlanRefused,
+        Mistake::SizeOfWholeTemplates,
+        Mistake::TooManyNodesIs1,
+        Mistake::RepeatLengthFirst,
+        Mistake::NodeBeforeLength,
+        Mistake::RepeatLengthLast,
+        Mistake::CountBeforeNode,
+        Mistake::SizeBeforeBlock,
+        Mistake::SizeBeforeCount,
+        Mistake::RepeatIntoEnough,
+        Mistake::RepeatIntoMore,
+        Mistake::RefusedRepeatWrites,
+    ];
+    for mistake in of_templates().filter(|mistake| !not_tried.contains(mistake)) {
         let tally = run_against(Broken::new(mistake), Broken::new(mistake), options);
         assert_ne!(tally.differences(), 0, "{mistake:?} on both sides is not found");
     }

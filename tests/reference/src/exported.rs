@@ -10,6 +10,7 @@ use crate::guard::Written;
 use crate::journal::Entry;
 use crate::record as records;
 use crate::refusal::Refusal;
+use crate::repeat as repeating;
 use crate::simulate::Outcome;
 use crate::site::Verdict;
 use crate::table::Table;
@@ -61,6 +62,17 @@ pub fn to_depths(plan: &[u8], out: &mut [u8]) -> u32 {
 #[inline(never)]
 pub fn from_depths(depths: &[u8], out: &mut [u8]) -> u32 {
     done(forms::from_depths(depths, out))
+}
+
+/// Writes a plan in which the subtree of a marked block's only child stands as
+/// many times as the count says; the value is its number of nodes. 1 to 8, 23, 24,
+/// 25.
+#[inline(never)]
+pub fn repeat(plan: &[u8], node: u32, count: u32, out: &mut [u8]) -> u32 {
+    match repeating::repeat(plan, node, count, out) {
+        Ok(nodes) => (nodes as u32) << 16,
+        Err(cause) => refused(cause),
+    }
 }
 
 /// Checks a plan and writes every node's depth: 1 to 7.
@@ -314,10 +326,10 @@ pub fn rehearse(text: &[u8], out: &mut [u8]) -> u32 {
     }
 }
 
-/// The version of these calls, a byte each for its three numbers: 1.6.0.
+/// The version of these calls, a byte each for its three numbers: 1.7.0.
 #[inline(never)]
 pub fn version() -> u32 {
-    (1 << 16) + (6 << 8)
+    (1 << 16) + (7 << 8)
 }
 
 /// The central rule; the value is 1 if the event was allowed. 1 to 9.

@@ -7,26 +7,22 @@ use crate::refusal::Refusal;
 /// Writes the same tree in the fixed numbering: 1 to 6, then 7 if the bytes lent
 /// are not as many as the plan's.
 pub fn renumber(plan: &[u8], out: &mut [u8]) -> Result<(), Refusal> {
-    let kinds = plan.iter().step_by(2);
     let plan = Plan::check(plan)?;
     require(out.len() == 2 * plan.size(), Refusal::Length)?;
-    let places = Places::of(&plan);
-    for (node, kind) in kinds.enumerate() {
-        let parent = plan.parent(node).map_or(NO_PARENT, |parent| places.0[parent]);
-        let place = 2 * usize::from(places.0[node]);
-        out[place..][..2].copy_from_slice(&[*kind, parent]);
-    }
+    Places::of(&plan).write(&plan, out.as_chunks_mut().0);
     Ok(())
 }
 
 /// The number that each node has in the fixed numbering.
-struct Places([u8; MAX_NODES]);
+pub(crate) struct Places([u8; MAX_NODES]);
 
 impl Places {
     /// A subtree takes as many numbers as it has nodes, the first of them for its
     /// root. Those of the children follow one another, and parents come before
-    /// children, so each child finds where its sibling before ended.
-    fn of(plan: &Plan) -> Places {
+    /// children, so each child finds where its sibling before ended. Inlined, so that
+    /// it costs each of its callers the same as if it stood there.
+    #[inline(always)]
+    pub(crate) fn of(plan: &Plan) -> Places {
         let mut size = [1_u8; MAX_NODES];
         for node in (1..plan.size()).rev() {
             plan.parent(node).into_iter().for_each(|parent| size[parent] += size[node]);
@@ -41,6 +37,20 @@ impl Places {
             }
         }
         places
+    }
+
+    /// The number that a node has.
+    pub(crate) fn place(&self, node: usize) -> usize {
+        usize::from(self.0[node])
+    }
+
+    /// Writes every node where it stands.
+    #[inline(always)]
+    pub(crate) fn write(&self, plan: &Plan, out: &mut [Node]) {
+        for (node, &[kind, _]) in plan.nodes().iter().enumerate() {
+            let parent = plan.parent(node).map_or(NO_PARENT, |parent| self.0[parent]);
+            out[self.place(node)] = [kind, parent];
+        }
     }
 }
 

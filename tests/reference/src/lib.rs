@@ -33,6 +33,7 @@ pub mod plan;
 pub mod points;
 pub mod record;
 pub mod refusal;
+pub mod repeat;
 pub mod rewrite;
 pub mod rule;
 pub mod simulate;

@@ -91,6 +91,11 @@ impl<'a> Plan<'a> {
         self.nodes.len()
     }
 
+    /// The nodes' bytes.
+    pub(crate) fn nodes(&self) -> &'a [Node] {
+        self.nodes
+    }
+
     /// The kind of a node.
     pub fn kind(&self, node: usize) -> Kind {
         Kind::from_byte(self.nodes[node][0]).expect("the kinds have been checked")

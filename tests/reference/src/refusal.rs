@@ -52,6 +52,12 @@ pub enum Refusal {
     Table = 21,
     /// A desk above the highest.
     Desk = 22,
+    /// The marked node is no block that can be repeated below.
+    NotRepeatable = 23,
+    /// A count that is not 1 to 32.
+    Count = 24,
+    /// The repeated plan would be too large.
+    TooManyNodes = 25,
     /// Marks that are not those of the pass over their answers.
     Marks = 28,
     /// A mark or an end that can't be wanted.

@@ -38,6 +38,13 @@ pub fn from_depths(depths: &[u8], out: &mut [u8]) -> u32 {
     unsafe { raw::vulcedar_from_depths(depths.as_ptr(), depths.len(), out.as_mut_ptr(), out.len()) }
 }
 
+/// Writes a plan in which the subtree of a marked block's only child stands as
+/// many times as the count says; the value is its number of nodes.
+pub fn repeat(plan: &[u8], node: u32, count: u32, out: &mut [u8]) -> u32 {
+    // SAFETY: as for `rewrite`.
+    unsafe { raw::vulcedar_repeat(plan.as_ptr(), plan.len(), node, count, out.as_mut_ptr(), out.len()) }
+}
+
 /// Checks a plan and writes every node's depth.
 pub fn check_depths(plan: &[u8], depths: &mut [u8]) -> u32 {
     // SAFETY: as for `rewrite`.

@@ -19,6 +19,15 @@ unsafe extern "C" {
         out_length: usize,
     ) -> u32;
 
+    pub fn vulcedar_repeat(
+        plan: *const u8,
+        plan_length: usize,
+        node: u32,
+        count: u32,
+        out: *mut u8,
+        out_length: usize,
+    ) -> u32;
+
     pub fn vulcedar_check_depths(
         plan: *const u8,
         plan_length: usize,

@@ -35,7 +35,7 @@ fn fits(mistake: Mistake, into_more: Mistake, bytes: &[u8], out: &[u8]) -> bool 
 }
 
 /// Writes as much as there is space for.
-fn write(bytes: &[u8], out: &mut [u8]) {
+pub fn write(bytes: &[u8], out: &mut [u8]) {
     out.iter_mut().zip(bytes).for_each(|(byte, &written)| *byte = written);
 }
 
