@@ -19,6 +19,8 @@ use Rattle.trees.specs.Numbering.{renumbered}
 use Rattle.trees.specs.Renumber.{Converted, converted, renumberNumber, renumberOf}
 use Rattle.depth_form.specs.Form.{depthForm, formPlan}
 use Rattle.depth_form.specs.Calls.{toDepthsNumber, toDepthsOf, fromDepthsNumber, fromDepthsOf}
+use Rattle.template.specs.Repeat.{repeated}
+use Rattle.template.specs.Call.{Made, made, inFront, repeatNumber, repeatOf}
 use Rattle.guard.specs.Guard.{guard}
 use Rattle.guard.specs.Rule.{ruleByte}
 use Rattle.guard.specs.Bytes.{encode}
@@ -70,6 +72,12 @@ to-depths-leaves p b = converted-leaves b (toDepthsNumber p b) (depthForm p)
 pub from-depths-leaves : (d b : List ℕ) → (fromDepthsOf d b .number ≡ 0 → ⊥) → fromDepthsOf d b .out ≡ b
 unfolding fromDepthsOf
 from-depths-leaves d b = converted-leaves b (fromDepthsNumber d b) (formPlan d)
+
+pub repeat-leaves : (p : List ℕ) (v r : ℕ) (b : List ℕ) → (repeatOf p v r b .number ≡ 0 → ⊥) → (repeatOf p v r b .out ≡ b) × (repeatOf p v r b .nodes ≡ 0)
+unfolding repeatOf
+repeat-leaves p v r b =
+    tested (λ (a : Made). a .number) (λ a. (a .out ≡ b) × (a .nodes ≡ 0)) (repeatNumber p v r b) (made (repeatNumber p v r b) 0 b)
+    (made 0 (size (repeated p v r)) (inFront (repeated p v r) b)) (refl, refl) (λ e. refl)
 
 pub depths-leave : (p d : List ℕ) → (depthsOf p d .number ≡ 0 → ⊥) → depthsOf p d .depths ≡ d
 unfolding depthsOf

@@ -21,6 +21,9 @@ use Rattle.trees.specs.Numbering.{inPreorder}
 use Rattle.trees.specs.Renumber.{converted, renumberNumber, renumberOf}
 use Rattle.depth_form.specs.Form.{depthForm, formNumber}
 use Rattle.depth_form.specs.Calls.{toDepthsNumber, toDepthsOf, fromDepthsNumber, fromDepthsOf}
+use Rattle.trees.specs.Tree.{nodeCount}
+use Rattle.template.specs.Repeat.{canMark, repeatedTree}
+use Rattle.template.specs.Call.{Made, made, timesOk, templateNumber, repeatNumber, repeatOf}
 use Rattle.guard.specs.Guard.{guard, holds, barred}
 use Rattle.guard.specs.Rule.{ruleByte}
 use Rattle.guard.specs.Bytes.{encode}
@@ -86,6 +89,18 @@ module _ (p : List ℕ) (ok : Accepted p) where
       go : (t : Bool) → (cond (not (eqb (cond (not t) 18 0) 0)) (converted (cond (not t) 18 0) b) (converted 0 (depthForm p))) .number ≡ cond t 0 18
       go true = refl
       go false = refl
+
+  repeat-number : (v r : ℕ) (b : List ℕ) → length b ≡ 320 → Later (repeatNumber p v r b)
+  unfolding repeatNumber templateNumber
+  repeat-number v r b e = rw (fit (eqb (length b) 320) (eq-eqb (length b) 320 e))
+      (choice Later (not (ltb v (size p))) 8 _ (λ z. later 8 refl)
+      (λ z. choice Later (not (canMark p v)) 23 _ (λ z. later 23 refl)
+      (λ z. choice Later (not (timesOk r)) 24 _ (λ z. later 24 refl)
+      (λ z. choice Later (not (leb (nodeCount (repeatedTree p v r)) 160)) 25 0 (λ z. later 25 refl) (λ z. none-later)))))
+
+  pub repeat-later : (v r : ℕ) (b : List ℕ) → length b ≡ 320 → Later (repeatOf p v r b .number)
+  unfolding repeatOf
+  repeat-later v r b e = choice (λ (a : Made). Later (a .number)) (not (eqb (repeatNumber p v r b) 0)) (made (repeatNumber p v r b) 0 b) _ (λ z. repeat-number v r b e) (λ z. none-later)
 
   pub depths-pass : (d : List ℕ) → length d ≡ size p → depthsOf p d .number ≡ 0
   unfolding depthsOf depthsNumber

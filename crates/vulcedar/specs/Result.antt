@@ -2,6 +2,7 @@
 use mathlib.Core.Path.{_≡_}
 use mathlib.Core.List.{List}
 use Prim.Native.Nat.{ℕ, _+_, _*_}
+use Rattle.template.specs.Call.{Made}
 use Rattle.guard.specs.Rule.{FoundRule}
 use Rattle.writer.specs.declared.Written.{Written}
 use Rattle.writer.specs.Written.{writtenNumber, writtenRule, writtenLength}
@@ -16,13 +17,17 @@ use Rattle.journal.specs.Journal.{Kept, Undone}
 use Rattle.points.specs.Points.{Naming}
 use Rattle.rewind.specs.Return.{Returned}
 
--- K5: 1.6.0, as 65536 times its first number, 256 times its second, and its third
+-- K5: 1.7.0, as 65536 times its first number, 256 times its second, and its third
 unfoldable pub version : ℕ
-version = 65536 * 1 + 256 * 6 + 0
+version = 65536 * 1 + 256 * 7 + 0
 
 -- K1: the number in bits 0 to 7, the event's site in bits 8 to 15, a value in bits 16 to 31
 abbrev pub result : ℕ → ℕ → ℕ → ℕ
 result n q v = n + 256 * q + 65536 * v
+
+-- K2, S8: the number of nodes of the plan that was written is the value
+unfoldable pub ofMade : Made → ℕ
+ofMade a = result (a .number) 0 (a .nodes)
 
 -- K2: the guard's length is the value; its rule stands where there is no site
 unfoldable pub ofWritten : Written → ℕ

@@ -9,6 +9,7 @@ ghost use Rattle.plan.specs.Check.{checkNumber};
 ghost use Rattle.rewrite.specs.Rewrite.{rewriteOf};
 ghost use Rattle.trees.specs.Renumber.{renumberOf};
 ghost use Rattle.depth_form.specs.Calls.{toDepthsOf, fromDepthsOf};
+ghost use Rattle.template.specs.Call.{repeatOf};
 ghost use Rattle.checker.specs.Depths.{depthsOf};
 ghost use Rattle.guard.specs.Rule.{ruleAnswer};
 ghost use Rattle.writer.specs.Written.{writeOf};
@@ -28,7 +29,7 @@ ghost use Rattle.rewind.specs.Arrays.{entriesOf};
 ghost use Rattle.rewind.specs.Return.{pointUndoOwn, pointBackOwn};
 ghost use Rattle.desks.specs.Desk.{deskCheck};
 ghost use Rattle.desks.specs.Calls.{deskStepOf, deskSimulateOf, deskKeepOf, deskUndoOf, deskPointUndoOf, deskPointBackOf, deskRecordInto, deskRecordByInto};
-ghost use Rattle.vulcedar.specs.Result.{version, result, ofWritten, ofFoundRule, ofVerdict, ofRuling, ofText, AsKept, AsUndone, AsNamed, AsReturned};
+ghost use Rattle.vulcedar.specs.Result.{version, result, ofMade, ofWritten, ofFoundRule, ofVerdict, ofRuling, ofText, AsKept, AsUndone, AsNamed, AsReturned};
 use journal::Entry;
 
 fn packed(number: u8, site: u8) -> u32
@@ -37,10 +38,10 @@ fn packed(number: u8, site: u8) -> u32
     plan::wide32(number) + 256 * plan::wide32(site)
 }
 
-fn with_rule(number: u8, site: u8, rule: u8) -> u32
-    ensures { λ r. ⌜ r ≡ result number site rule ⌝ }
+fn with_value(number: u8, site: u8, value: u8) -> u32
+    ensures { λ r. ⌜ r ≡ result number site value ⌝ }
 {
-    packed(number, site) + 65536 * plan::wide32(rule)
+    packed(number, site) + 65536 * plan::wide32(value)
 }
 
 fn of_refusal(why: site::Refusal) -> u32
@@ -58,14 +59,14 @@ fn of_verdict(v: site::Verdict) -> u32
     ensures { λ r. ⌜ r ≡ ofVerdict v ⌝ }
 {
     let r = site::report_of(v);
-    with_rule(r.number, r.site, r.rule)
+    with_value(r.number, r.site, r.rule)
 }
 
 #[no_mangle]
 pub extern "C" fn vulcedar_version() -> u32
     ensures { λ r. ⌜ r ≡ version ⌝ }
 {
-    67072
+    67328
 }
 
 #[no_mangle]
@@ -108,6 +109,15 @@ pub extern "C" fn vulcedar_from_depths(depths: &[u8], out: &mut [u8]) -> u32
 }
 
 #[no_mangle]
+pub extern "C" fn vulcedar_repeat(plan: &[u8], node: u32, count: u32, out: &mut [u8]) -> u32
+    ensures { λ r. ⌜ r ≡ ofMade (repeatOf (now (plan .entry)) node count (now (out .entry))) ⌝ }
+    ensures { λ r. ⌜ now (out .exit) ≡ repeatOf (now (plan .entry)) node count (now (out .entry)) .out ⌝ }
+{
+    let r = repeat::repeat(plan, node, count, out);
+    with_value(r.number, 0, r.nodes)
+}
+
+#[no_mangle]
 pub extern "C" fn vulcedar_check_depths(plan: &[u8], depths: &mut [u8]) -> u32
     ensures { λ r. ⌜ r ≡ result (depthsOf (now (plan .entry)) (now (depths .entry)) .number) 0 0 ⌝ }
     ensures { λ r. ⌜ now (depths .exit) ≡ depthsOf (now (plan .entry)) (now (depths .entry)) .depths ⌝ }
@@ -132,7 +142,7 @@ pub extern "C" fn vulcedar_rule(plan: &[u8], code: u32, node: u32) -> u32
     ensures { λ r. ⌜ r ≡ ofFoundRule (ruleAnswer (now (plan .entry)) code node) ⌝ }
 {
     let r = guard::rule(plan, code, node);
-    with_rule(r.number, 0, r.rule)
+    with_value(r.number, 0, r.rule)
 }
 
 #[no_mangle]
@@ -142,7 +152,7 @@ pub extern "C" fn vulcedar_step(plan: &[u8], code: u32, node: u32, row: &mut [u8
 {
     // read where it stands: a verdict that is handed on costs a step more
     match site::step(plan, code, node, row) {
-        site::Verdict::Passed(e) => with_rule(0, e.site, e.rule),
+        site::Verdict::Passed(e) => with_value(0, e.site, e.rule),
         site::Verdict::Heard => 0,
         site::Verdict::Refused(why) => of_refusal(why),
     }

@@ -8,12 +8,12 @@ use Rattle.vulcedar.proofs.of_verdict.Tie as tie
 report-of-requires : tie.Need-report-of-requires
 report-of-requires c κs = search needs
 
-with-rule-requires : tie.Need-with-rule-requires
-with-rule-requires c κs = search needs
+with-value-requires : tie.Need-with-value-requires
+with-value-requires c κs = search needs
 
 returns : tie.Need-returns
 unfolding ofReport
-returns c = c .with-rule .ensures ∙ ap ofReport (c .before .report-of .ensures)
+returns c = c .with-value .ensures ∙ ap ofReport (c .before .report-of .ensures)
 
 pub of-verdict-spec : {M : Type 1} → statement M
-of-verdict-spec = tie.close (tie.spec report-of-requires with-rule-requires returns)
+of-verdict-spec = tie.close (tie.spec report-of-requires with-value-requires returns)

@@ -13,8 +13,8 @@ step-requires c κs = search needs
 enum-known-e : tie.Need-enum-known-e
 enum-known-e c = search needs
 
-with-rule-requires : tie.Need-with-rule-requires
-with-rule-requires c κs = search needs
+with-value-requires : tie.Need-with-value-requires
+with-value-requires c κs = search needs
 
 enum-told : tie.Need-enum-told
 enum-told c = search needs
@@ -30,7 +30,7 @@ same-length c = search needs
 
 returns : tie.Need-returns
 unfolding ofReport reportOf
-returns c = step-result _ _ _ (c .before .before .before .before .before .before .step .ensures) _ (c .with-rule .ensures ∙ sym (ap ofVerdict (c .before .before .e .given .1)))
+returns c = step-result _ _ _ (c .before .before .before .before .before .before .step .ensures) _ (c .with-value .ensures ∙ sym (ap ofVerdict (c .before .before .e .given .1)))
 
 same-length-2 : tie.Need-same-length-2
 same-length-2 c = search needs
@@ -51,7 +51,7 @@ vulcedar-step-spec =
     (tie.spec
     step-requires
     enum-known-e
-    with-rule-requires
+    with-value-requires
     enum-told
     enum-known-why
     of-refusal-requires
