@@ -5,3 +5,4 @@ pub mod SoundLaws
 pub mod PlanLaws
 pub mod CallLaws
 pub mod Main
+pub mod Cases
