@@ -2,7 +2,7 @@
 use mathlib.Core.Path.{_≡_, refl}
 use mathlib.Core.Bool.{Bool, true, false, cond, _&&_, _||_, not}
 use mathlib.Core.List.{List, [], _∷_, _++_, map}
-use Prim.Native.Nat.{ℕ, zero, suc, _-_, _*_}
+use Prim.Native.Nat.{ℕ, zero, suc, _+_, _-_, _*_}
 use lib.Dec.{eqb, ltb, leb}
 use lib.ListN.{length, drop}
 use Rattle.lists.specs.Seq.{keep, upFrom, allBelow}
@@ -134,6 +134,15 @@ tasks : ℕ → ℕ → List ℕ
 tasks zero u = []
 tasks (suc n) u = 1 ∷ u ∷ tasks n u
 
+-- n serials below 1, each of four tasks, from node v on
+serials : ℕ → ℕ → List ℕ
+serials zero v = []
+serials (suc n) v = 2 ∷ 1 ∷ (tasks 4 v ++ serials n (v + 5))
+
+-- serial 0: and 1 of serial 2 of four tasks, then three tasks and the tasks x
+abbrev ten : List ℕ → List ℕ
+ten x = 2 ∷ 255 ∷ 3 ∷ 0 ∷ 2 ∷ 1 ∷ (tasks 4 2 ++ tasks 3 0 ++ x)
+
 calls : List Called
 calls =
     passes (one 3) 0 1 2 (one 3)
@@ -151,13 +160,14 @@ calls =
     ∷ refused (one 3) 0 1 319 7
     ∷ refused (one 3) 0 1 321 7
     ∷ refused (one 3) 0 1 4 7
-    -- and of a serial of 4 tasks, 32 times: 161 nodes
-    ∷ refused (3 ∷ 255 ∷ 2 ∷ 0 ∷ tasks 4 1) 0 32 320 25
+    ∷ passes (ten []) 1 31 160 (2 ∷ 255 ∷ 3 ∷ 0 ∷ (serials 31 2 ++ tasks 3 0))
+    ∷ refused (ten []) 1 32 320 25
+    ∷ refused (ten (1 ∷ 0 ∷ [])) 1 31 320 25
     -- the first number that fits
     ∷ refused (one 2) 9 0 319 7
     ∷ refused (one 2) 9 0 320 8
     ∷ refused (one 2) 0 0 320 23
-    ∷ refused (3 ∷ 255 ∷ 2 ∷ 0 ∷ tasks 4 1) 0 33 320 24
+    ∷ refused (ten []) 1 33 320 24
     ∷ refused [] 9 0 319 1
     ∷ refused (9 ∷ 255 ∷ []) 9 0 319 2
     ∷ refused (3 ∷ 0 ∷ []) 9 0 319 3
@@ -167,5 +177,5 @@ calls =
 
 calls-right : map (λ k. repeatOf (k .plan) (k .node) (k .count) (nines (k .lent))) calls ≡
     map (λ k. made (k .number) (k .nodes) (cond (eqb (k .number) 0) (k .new ++ nines (320 - 2 * k .nodes)) (nines (k .lent)))) calls
-unfolding refused passes nines tasks calls repeatOf repeatNumber templateNumber timesOk inFront canMark canRepeat repeated repeatedTree repeatedBelow repeatedWithin times beside written treesBelow belowWithin treesOf nodeCount fitNumber checkNumber lengthOk atAll kindOk parentOk underBlock fits countOk depthOk kindOf size kindByte kind parent childrenBelow children childCount depthWithin depth keep upFrom allBelow
+unfolding refused passes nines tasks serials calls repeatOf repeatNumber templateNumber timesOk inFront canMark canRepeat repeated repeatedTree repeatedBelow repeatedWithin times beside written treesBelow belowWithin treesOf nodeCount fitNumber checkNumber lengthOk atAll kindOk parentOk underBlock fits countOk depthOk kindOf size kindByte kind parent childrenBelow children childCount depthWithin depth keep upFrom allBelow
 calls-right = refl

@@ -30,7 +30,7 @@ node-count-requires : tie.Need-node-count-requires
 node-count-requires c κs = search needs
 
 sub-nodes : tie.Need-sub-nodes
-sub-nodes c = (count-yes _ _ (c .before .before .times-ok .ensures) (c .before .if2 .left)) .0
+sub-nodes c = omega (arith, (count-yes _ _ (c .before .before .times-ok .ensures) (c .before .if2 .left)) .0)
 
 count-below-requires : tie.Need-count-below-requires
 count-below-requires c κs = search needs
