@@ -1,5 +1,5 @@
 -- What the call comes to, by the test that fails first. Assumes nothing.
-use mathlib.Core.Path.{_≡_, sym, _∙_, ap}
+use mathlib.Core.Path.{_≡_, _∙_, ap}
 use mathlib.Core.Bool.{Bool, true, false, _&&_, not}
 use mathlib.Core.List.{List}
 use Prim.Native.Nat.{ℕ, suc, _+_, _-_, _*_, _≤_, _<_}
@@ -41,36 +41,39 @@ count-no {p} {m} r out h long t told e = call.by-count p m r out h long (failed 
 pub count-yes : (r : ℕ) (t : Bool) → t ≡ timesOk r → not t ≡ false → (1 ≤ r) × (r ≤ 32)
 count-yes r t told e = call.times-told r (passed t (timesOk r) told e)
 
--- n nodes in the template, l of them below the marked one
-module _ {p : List ℕ} {m : ℕ} (h : Template p m) (r n l : ℕ) (times : (1 ≤ r) × (r ≤ 32)) (size-told : n ≡ size p) (below-told : l ≡ nodeCount (treesBelow p m)) where
-  pub nodes-few : n + (r - 1) * l ≤ 5280
-  nodes-few =
-      let all = h .accepted .few in
-      let few = below-few p (h .accepted) m (h .node) in
-      let some : r - 1 ≤ 32 = omega (arith, times .1) in
-      omega (arith, mul-le-mul-right l some)
+-- a template and a right count: n nodes in the template, l of them below the marked one
+pub record Counted (p : List ℕ) (m r n l : ℕ) : Type 0 where
+  pub template : Template p m
+  pub times : (1 ≤ r) × (r ≤ 32)
+  pub nodes : n ≡ size p
+  pub below : l ≡ nodeCount (treesBelow p m)
 
-  nodes : nodeCount (repeatedTree p m r) ≡ n + (r - 1) * l
-  nodes =
-      let z : r ≡ suc (r - 1) = omega (arith, times .0) in
-      ap (repeatedNodes) z ∙ repeat-count p (h .accepted) m (h .node) (r - 1) ∙ rw (size-told, below-told)
-    where
-      repeatedNodes : ℕ → ℕ
-      repeatedNodes i = nodeCount (repeatedTree p m i)
+module _ {p : List ℕ} {m r n l : ℕ} (h : Counted p m r n l) where
+  pub counted-few : n + (r - 1) * l ≤ 5280
+  counted-few =
+      let all = h .template .accepted .few in
+      let few = below-few p (h .template .accepted) m (h .template .node) in
+      let some : r - 1 ≤ 32 = omega (arith, h .times .1) in
+      omega (arith, mul-le-mul-right l some, h .nodes, h .below)
+
+  nodes-told : nodeCount (repeatedTree p m r) ≡ n + (r - 1) * l
+  nodes-told =
+      let z : r ≡ suc (r - 1) = omega (arith, h .times .0) in
+      ap (λ i. nodeCount (repeatedTree p m i)) z ∙ repeat-count p (h .template .accepted) m (h .template .node) (r - 1) ∙ rw (h .nodes, h .below)
 
   pub nodes-no : (out : List ℕ) → length out ≡ 320 → 160 < n + (r - 1) * l → repeatOf p m r out ≡ made 25 0 out
-  nodes-no out long e = call.by-nodes p m r out h long (times .0) (times .1) (omega (arith, nodes))
+  nodes-no out long e = call.by-nodes p m r out (h .template) long (h .times .0) (h .times .1) (omega (arith, nodes-told))
 
   module _ (few : n + (r - 1) * l ≤ 160) where
     room : 2 * suc (nodeCount (repeatedBelow p m r 0)) ≤ 320
     unfolding repeatedTree nodeCount
-    room = omega (arith, nodes)
+    room = omega (arith, nodes-told)
 
     pub root-ready : {first next : List ℕ} → Linked p first next → (out : List ℕ) → length out ≡ 320 → Placeable p first next out 0 0 (repeatedBelow p m r 0)
-    root-ready links out long = record { accepted = h .accepted; linked = links; node = h .accepted .some; room = omega (arith, room); few = omega arith }
+    root-ready links out long = record { accepted = h .template .accepted; linked = links; node = h .template .accepted .some; room = omega (arith, room); few = omega arith }
 
     pub repeat-done : (out b : List ℕ) (w : ℕ) → length out ≡ 320 → Placed p 0 255 0 (repeatedBelow p m r 0) out b w → repeatOf p m r out ≡ made 0 (n + (r - 1) * l) b
     unfolding inFront repeated repeatedTree
     repeat-done out b w long d =
         let left : b ≡ inFront (repeated p m r) out = root-placed (omega (arith, room)) d in
-        call.repeat-passed p m r out h long (times .0) (times .1) (omega (arith, nodes)) ∙ rw (left, ← nodes, repeat-size p m r)
+        call.repeat-passed p m r out (h .template) long (h .times .0) (h .times .1) (omega (arith, nodes-told)) ∙ rw (left, ← nodes-told, repeat-size p m r)

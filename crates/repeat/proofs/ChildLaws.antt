@@ -2,20 +2,20 @@
 use mathlib.Core.Path.{_≡_, refl, sym, _∙_, ap}
 use mathlib.Core.Bool.{Bool, true, false, _&&_, not}
 use mathlib.Core.List.{List, [], _∷_}
-use Prim.Native.Nat.{ℕ, suc, _+_, _*_, _≤_, _<_}
+use Prim.Native.Nat.{ℕ, _<_}
 use native.Mathlib.Omega.{arith}
 use lib.Dec.{eqb}
-use lib.ListN.{length, getD, replicate, length-replicate}
-use borrow.Author.Tests.{eqb-true, eqb-false, eq-eqb, ne-eqb}
+use lib.ListN.{length, getD}
+use borrow.Author.Tests.{eqb-true, eqb-false, ne-eqb}
 use Rattle.lists.proofs.Logic.{cases, decided}
-use Rattle.plan.specs.Plan.{size, kindByte, children, childCount}
+use Rattle.plan.specs.Plan.{size, children, childCount}
 use Rattle.plan.specs.Check.{Accepted}
 use Rattle.plan.proofs.PlanLaws.{Child}
 use Rattle.plan.proofs.AcceptedLaws.{accepted-ordered}
 use Rattle.plan.proofs.Exact.{none-left}
 use Rattle.links.specs.Links.{ledTo, Linked}
 use Rattle.links.proofs.LinkLaws.{led-none, led-some, first-child, led-all, led-on}
-use Rattle.trees.specs.Tree.{Forest, none, tree, treesOf, treesBelow, treeAt, nodeCount}
+use Rattle.trees.specs.Tree.{tree, treesOf, treesBelow, treeAt}
 use Rattle.trees.proofs.TreeLaws.{trees-step}
 use Rattle.trees.proofs.RenumberLaws.{below-few}
 use Rattle.placing.specs.Place.{Placeable}

@@ -1,11 +1,11 @@
 -- A tree written again and again, side by side: a turn of the loop at a time. Assumes nothing.
-use mathlib.Core.Path.{_≡_, refl, sym, _∙_, ap, subst}
+use mathlib.Core.Path.{_≡_, subst}
 use mathlib.Core.List.{List}
-use Prim.Native.Nat.{ℕ, suc, _+_, _-_, _*_, _≤_, _<_}
+use Prim.Native.Nat.{ℕ, suc, _+_, _-_, _≤_, _<_}
 use native.Mathlib.Omega.{arith}
 use lib.ListN.{length}
 use Rattle.plan.specs.Plan.{kindByte}
-use Rattle.trees.specs.Tree.{none, tree, treesBelow, treeAt}
+use Rattle.trees.specs.Tree.{tree, treesBelow, treeAt}
 use Rattle.template.specs.Repeat.{beside, times}
 use Rattle.placing.specs.Place.{Placeable, Placed}
 use Rattle.placing.proofs.PlaceLaws.{Placing, placing-all, placing-room, placing-turn, placing-none}

@@ -15,7 +15,7 @@ use Rattle.plan.proofs.Main.{fit-exact}
 use Rattle.trees.specs.Tree.{nodeCount}
 use Rattle.template.specs.Repeat.{canRepeat, canMark, repeatedTree, repeated}
 use Rattle.template.specs.Call.{Made, made, inFront, timesOk, templateNumber, repeatNumber, repeatOf}
-use Rattle.template.specs.Claim.{Template, IsRepeated, AsRepeated, Numbers}
+use Rattle.template.specs.Claim.{Template, AsRepeated, Numbers}
 use Rattle.template.proofs.PlanLaws.{repeat-size, repeat-right, repeat-only}
 
 -- S1, by the test
@@ -53,7 +53,7 @@ repeat-ready p out k told e = let f = fit-exact p (eqb (length out) 320) .none .
 
 -- what a call comes to, by the test that fails first
 module _ (p : List ℕ) (m r : ℕ) (out : List ℕ) where
-  pub repeat-refused : (k : ℕ) → repeatNumber p m r out ≡ k → (k ≡ 0 → ⊥) → repeatOf p m r out ≡ made k 0 out
+  repeat-refused : (k : ℕ) → repeatNumber p m r out ≡ k → (k ≡ 0 → ⊥) → repeatOf p m r out ≡ made k 0 out
   unfolding repeatOf
   repeat-refused k e n = rw (e, ne-eqb k 0 n)
 

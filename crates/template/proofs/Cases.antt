@@ -1,14 +1,13 @@
 -- Templates, their repeated trees and plans, and the call (rules S), worked out by hand from the rules. Assumes nothing.
 use mathlib.Core.Path.{_≡_, refl}
-use mathlib.Core.Bool.{Bool, true, false, cond, _&&_, _||_, not}
+use mathlib.Core.Bool.{Bool, true, false, cond, not}
 use mathlib.Core.List.{List, [], _∷_, _++_, map}
 use Prim.Native.Nat.{ℕ, zero, suc, _+_, _-_, _*_}
-use lib.Dec.{eqb, ltb, leb}
-use lib.ListN.{length, drop}
+use lib.Dec.{eqb}
 use Rattle.lists.specs.Seq.{keep, upFrom, allBelow}
 use Rattle.plan.specs.Plan.{kindOf, size, kindByte, kind, parent, childrenBelow, children, childCount, depthWithin, depth}
 use Rattle.plan.specs.Check.{lengthOk, kindOk, parentOk, underBlock, fits, countOk, depthOk, atAll, checkNumber, fitNumber}
-use Rattle.trees.specs.Tree.{Forest, none, tree, treesOf, belowWithin, treesBelow, treeOf, nodeCount}
+use Rattle.trees.specs.Tree.{Forest, none, tree, treesOf, belowWithin, treesBelow, nodeCount}
 use Rattle.trees.specs.Numbering.{written, aboveWithin, isAbove, follows, inPreorder}
 use Rattle.template.specs.Repeat.{canRepeat, canMark, beside, times, repeatedWithin, repeatedBelow, repeatedTree, repeated}
 use Rattle.template.specs.Call.{made, inFront, timesOk, templateNumber, repeatNumber, repeatOf}
@@ -87,10 +86,10 @@ trees =
     ∷ grown (one 8) 0 3 (tree 8 (leaf (leaf (leaf none))) none) 4 (8 ∷ 255 ∷ 1 ∷ 0 ∷ 1 ∷ 0 ∷ 1 ∷ 0 ∷ [])
     ∷ grown day 2 1 (tree 2 (leaf (tree 3 (tree 2 (leaf (leaf none)) none) (leaf none))) none) 7 day
     ∷ grown day 2 2 (tree 2 (leaf (tree 3 (tree 2 (leaf (leaf none)) (tree 2 (leaf (leaf none)) none)) (leaf none))) none) 10
-        (2 ∷ 255 ∷ 1 ∷ 0 ∷ 3 ∷ 0 ∷ 2 ∷ 2 ∷ 1 ∷ 3 ∷ 1 ∷ 3 ∷ 2 ∷ 2 ∷ 1 ∷ 6 ∷ 1 ∷ 6 ∷ 1 ∷ 0 ∷ [])
+    (2 ∷ 255 ∷ 1 ∷ 0 ∷ 3 ∷ 0 ∷ 2 ∷ 2 ∷ 1 ∷ 3 ∷ 1 ∷ 3 ∷ 2 ∷ 2 ∷ 1 ∷ 6 ∷ 1 ∷ 6 ∷ 1 ∷ 0 ∷ [])
     ∷ grown mixed 1 1 (tree 2 (tree 3 (tree 2 (leaf (leaf none)) none) (leaf none)) none) 6 (2 ∷ 255 ∷ 3 ∷ 0 ∷ 2 ∷ 1 ∷ 1 ∷ 2 ∷ 1 ∷ 2 ∷ 1 ∷ 0 ∷ [])
     ∷ grown mixed 1 2 (tree 2 (tree 3 (tree 2 (leaf (leaf none)) (tree 2 (leaf (leaf none)) none)) (leaf none)) none) 9
-        (2 ∷ 255 ∷ 3 ∷ 0 ∷ 2 ∷ 1 ∷ 1 ∷ 2 ∷ 1 ∷ 2 ∷ 2 ∷ 1 ∷ 1 ∷ 5 ∷ 1 ∷ 5 ∷ 1 ∷ 0 ∷ [])
+    (2 ∷ 255 ∷ 3 ∷ 0 ∷ 2 ∷ 1 ∷ 1 ∷ 2 ∷ 1 ∷ 2 ∷ 2 ∷ 1 ∷ 1 ∷ 5 ∷ 1 ∷ 5 ∷ 1 ∷ 0 ∷ [])
     ∷ grown nested 0 2 (tree 4 (tree 5 (leaf none) (tree 5 (leaf none) none)) none) 5 (4 ∷ 255 ∷ 5 ∷ 0 ∷ 1 ∷ 1 ∷ 5 ∷ 0 ∷ 1 ∷ 3 ∷ [])
     ∷ grown nested 1 2 (tree 4 (tree 5 (leaf (leaf none)) none) none) 4 (4 ∷ 255 ∷ 5 ∷ 0 ∷ 1 ∷ 1 ∷ 1 ∷ 1 ∷ [])
     ∷ []

@@ -1,6 +1,6 @@
 -- How many nodes the repeated tree has. Assumes nothing.
-use mathlib.Core.Path.{_≡_, refl, sym, _∙_, ap}
-use mathlib.Core.List.{List, [], _∷_}
+use mathlib.Core.Path.{_≡_, refl, _∙_, ap}
+use mathlib.Core.List.{List, _∷_}
 use Prim.Native.Nat.{ℕ, zero, suc, _+_, _*_, _≤_, _<_}
 use native.Mathlib.Omega.{arith}
 use lib.Dec.{eqb}
@@ -25,7 +25,7 @@ unfolding beside nodeCount
 count-beside none t = omega arith
 count-beside (tree k b s) t = omega (arith, count-beside s t)
 
-pub count-times : (r : ℕ) (t : Forest) → nodeCount (times r t) ≡ r * nodeCount t
+count-times : (r : ℕ) (t : Forest) → nodeCount (times r t) ≡ r * nodeCount t
 unfolding times nodeCount
 count-times zero t = omega arith
 count-times (suc r) t = count-beside t (times r t) ∙ rw (count-times r t) (omega arith)

@@ -1,5 +1,4 @@
 -- The theorems of this crate: the claims of specs/Claim.antt. Assumes nothing.
-use mathlib.Core.Path.{_≡_}
 use Rattle.plan.proofs.AcceptedLaws.{accepted-ordered}
 use Rattle.template.specs.Claim.{RepeatSteps, RepeatCount, RepeatChecked, RepeatRight, RepeatOnce, RepeatCall, RepeatNumbers}
 use Rattle.template.proofs.StepLaws as steps

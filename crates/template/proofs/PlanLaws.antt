@@ -22,7 +22,7 @@ use Rattle.template.specs.Claim.{Template, IsRepeated}
 use Rattle.template.proofs.SoundLaws.{repeat-sound}
 
 -- two bytes a node
-pub repeat-length : (p : List ℕ) (m r : ℕ) → length (repeated p m r) ≡ 2 * nodeCount (repeatedTree p m r)
+repeat-length : (p : List ℕ) (m r : ℕ) → length (repeated p m r) ≡ 2 * nodeCount (repeatedTree p m r)
 unfolding repeated
 repeat-length p m r = written-length (repeatedTree p m r) 255 0
 

@@ -1,12 +1,11 @@
 -- The repeated tree is within the limits of kinds, numbers of children and depth. Assumes nothing.
-use mathlib.Core.Path.{_≡_, refl, sym, _∙_, ap}
+use mathlib.Core.Path.{_≡_, refl, _∙_, ap}
 use mathlib.Core.Bool.{true}
 use mathlib.Core.List.{List}
 use mathlib.Core.Logic.{_⊎_, inl, inr}
 use Prim.Native.Nat.{ℕ, zero, suc, _+_, _≤_, _<_}
 use native.Mathlib.Omega.{arith}
 use lib.Dec.{eqb, leb}
-use lib.ListN.{length}
 use borrow.Author.Tests.{eqb-true, eqb-false, le-leb}
 use Rattle.lists.proofs.Logic.{cases, decided, and-join}
 use Rattle.plan.specs.Plan.{kindOf, size, kindByte, children, depth}
