@@ -9,7 +9,7 @@ use Rattle.plan.specs.Plan.{kindOf, size, kindByte, kind, parent, childrenBelow
 use Rattle.plan.specs.Check.{lengthOk, kindOk, parentOk, underBlock, fits, countOk, depthOk, atAll, checkNumber, fitNumber}
 use Rattle.trees.specs.Tree.{Forest, none, tree, treesOf, belowWithin, treesBelow, nodeCount}
 use Rattle.trees.specs.Numbering.{written, aboveWithin, isAbove, follows, inPreorder}
-use Rattle.template.specs.Repeat.{canRepeat, canMark, beside, times, repeatedWithin, repeatedBelow, repeatedTree, repeated}
+use Rattle.template.specs.Repeat.{canRepeat, canMark, beside, times, repeatedWithin, repeatedBelow, repeatedTree, repeated, moved}
 use Rattle.template.specs.Call.{made, inFront, timesOk, templateNumber, repeatNumber, repeatOf}
 
 -- serial 0: task 1, and 2 of serial 3 of tasks 4 and 5, task 6
@@ -106,6 +106,11 @@ checks-right = refl
 orders-right : map (λ k. inPreorder (repeated (k .plan) (k .node) (k .count))) trees ≡ map (λ k. true) trees
 unfolding grown trees repeated repeatedTree repeatedBelow repeatedWithin times beside written treesBelow belowWithin treesOf nodeCount inPreorder follows isAbove aboveWithin atAll size kindByte parent childrenBelow children keep upFrom allBelow
 orders-right = refl
+
+-- S9: numbers from 3 on move by 4
+moves-right : map (moved 3 4) (0 ∷ 2 ∷ 3 ∷ 4 ∷ 9 ∷ []) ≡ 0 ∷ 2 ∷ 7 ∷ 8 ∷ 13 ∷ []
+unfolding moved
+moves-right = refl
 
 -- S6, S8: a call: how many bytes are lent, its number, the nodes written, and the plan where it passes
 record Called : Type 0 where

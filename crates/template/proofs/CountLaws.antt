@@ -59,8 +59,12 @@ module _ (p : List ℕ) (ok : Accepted p) (m : ℕ) (node : m < size p) (i : ℕ
       (children p v) (rising-children p v) (d .1)
       (λ c k ne. outside p (accepted-ordered p ok) m (suc i) c (child-of p v k .high) (λ w. apart p ok v c (d .0) k (d .1) ne m w (d .2)))))
 
+  -- the marked node is in v's subtree
+  pub count-path : (v : ℕ) → v < size p → Under p v m → nodeCount (repeatedBelow p m (suc i) v) ≡ nodeCount (treesBelow p v) + i * nodeCount (treesBelow p m)
+  count-path v l u = count-within (size p) v (omega arith) l u
+
   pub repeat-count : nodeCount (repeatedTree p m (suc i)) ≡ size p + i * nodeCount (treesBelow p m)
   unfolding repeatedTree nodeCount
   repeat-count =
-      let c = count-within (size p) 0 (omega arith) (ok .some) (under-root p ok (suc m) m (omega arith) node) in
+      let c = count-path 0 (ok .some) (under-root p ok (suc m) m (omega arith) node) in
       omega (arith, below-count p ok)

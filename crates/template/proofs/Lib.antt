@@ -3,6 +3,8 @@ pub mod StepLaws
 pub mod CountLaws
 pub mod SoundLaws
 pub mod PlanLaws
+pub mod MoveLaws
+pub mod PlacesLaws
 pub mod CallLaws
 pub mod Main
 pub mod Cases

@@ -6,11 +6,11 @@ use mathlib.Core.Logic.{_⊎_, _↔_}
 use Prim.Native.Nat.{ℕ, suc, _+_, _*_, _≤_, _<_}
 use lib.Dec.{eqb, leb}
 use lib.ListN.{length, drop}
-use Rattle.plan.specs.Plan.{size, kindByte, children}
+use Rattle.plan.specs.Plan.{size, kindByte, parent, children}
 use Rattle.plan.specs.Check.{Accepted, checkNumber, fitNumber}
 use Rattle.trees.specs.Tree.{treesOf, treesBelow, treeOf, nodeCount}
 use Rattle.trees.specs.Numbering.{renumbered, inPreorder}
-use Rattle.template.specs.Repeat.{times, repeatedBelow, repeatedTree, repeated}
+use Rattle.template.specs.Repeat.{times, repeatedBelow, repeatedTree, repeated, moved}
 use Rattle.template.specs.Call.{made, repeatOf}
 
 -- S1: the plan p with the marked node m
@@ -51,6 +51,21 @@ RepeatRight = (p : List ℕ) (m r : ℕ) → Template p m → 1 ≤ r → r ≤ 
 -- CLAIM (S7)
 abbrev pub RepeatOnce : Type 0
 RepeatOnce = (p : List ℕ) → Accepted p → (m : ℕ) → repeated p m 1 ≡ renumbered p
+
+-- S9: node v of p stands in q s numbers later; of its parent's number, what is from x on moves along
+pub record Moves (p q : List ℕ) (x s v : ℕ) : Type 0 where
+  pub kinds : kindByte q (v + s) ≡ kindByte p v
+  pub parents : parent q (v + s) ≡ moved x s (parent p v)
+
+-- S9: where the nodes of p stand in q, if i times are added below m: those up to m, the copies of those below m, and those behind them
+pub record Places (p : List ℕ) (m i : ℕ) (q : List ℕ) : Type 0 where
+  pub before : (v : ℕ) → v ≤ m → (kindByte q v ≡ kindByte p v) × (parent q v ≡ parent p v)
+  pub copies : (v c : ℕ) → m < v → v ≤ m + nodeCount (treesBelow p m) → c ≤ i → Moves p q (suc m) (c * nodeCount (treesBelow p m)) v
+  pub behind : (v : ℕ) → m + nodeCount (treesBelow p m) < v → v < size p → Moves p q (suc m) (i * nodeCount (treesBelow p m)) v
+
+-- CLAIM (S9). Where each node of a template in the fixed numbering stands.
+abbrev pub RepeatPlaces : Type 0
+RepeatPlaces = (p : List ℕ) → Accepted p → inPreorder p ≡ true → (m : ℕ) → m < size p → (i : ℕ) → Places p m i (repeated p m (suc i))
 
 -- S6, S8: with the bytes out lent, the plan q is left in front of them, and n is its number of nodes
 pub record AsRepeated (p : List ℕ) (m r : ℕ) (out : List ℕ) (n : ℕ) (out′ : List ℕ) : Type 0 where

@@ -1,8 +1,8 @@
 -- A template, and its tree repeated (rules S1, S2). Definitions only.
 use mathlib.Core.Bool.{Bool, cond, _&&_, _||_}
 use mathlib.Core.List.{List}
-use Prim.Native.Nat.{ℕ, zero, suc}
-use lib.Dec.{eqb}
+use Prim.Native.Nat.{ℕ, zero, suc, _+_}
+use lib.Dec.{eqb, ltb}
 use Rattle.plan.specs.Plan.{size, kindByte, children, childCount}
 use Rattle.trees.specs.Tree.{Forest, none, tree, treesOf, treesBelow}
 use Rattle.trees.specs.Numbering.{planOf}
@@ -42,3 +42,7 @@ repeatedTree p m r = tree (kindByte p 0) (repeatedBelow p m r 0) none
 -- S2: and written as a plan
 unfoldable pub repeated : List ℕ → ℕ → ℕ → List ℕ
 repeated p m r = planOf (repeatedTree p m r)
+
+-- S9: numbers from x on move by s, and those before x stay
+unfoldable pub moved : ℕ → ℕ → ℕ → ℕ
+moved x s v = cond (ltb v x) v (v + s)
