@@ -4,6 +4,7 @@ pub mod CountLaws
 pub mod SoundLaws
 pub mod PlanLaws
 pub mod MoveLaws
+pub mod BlockLaws
 pub mod PlacesLaws
 pub mod CallLaws
 pub mod Main

@@ -15,7 +15,7 @@ pub moved-low : (x s v : ℕ) → v < x → moved x s v ≡ v
 unfolding moved
 moved-low x s v l = rw (lt-ltb v x l)
 
-pub moved-high : (x s v : ℕ) → x ≤ v → moved x s v ≡ v + s
+moved-high : (x s v : ℕ) → x ≤ v → moved x s v ≡ v + s
 unfolding moved
 moved-high x s v l = rw (le-ltb v x l)
 

@@ -1,7 +1,7 @@
 -- Where each node of a template in the fixed numbering stands in the repeated plan: down the path to the marked node. Assumes nothing.
-use mathlib.Core.Path.{_≡_, refl, sym, _∙_, ap}
+use mathlib.Core.Path.{_≡_, refl, sym, _∙_}
 use mathlib.Core.Bool.{true}
-use mathlib.Core.List.{List, [], _∷_}
+use mathlib.Core.List.{List, _∷_}
 use Prim.Native.Nat.{ℕ, zero, suc, _+_, _*_, _≤_, _<_}
 use native.Mathlib.Omega.{arith}
 use lib.Dec.{eqb, ltb}
@@ -9,17 +9,15 @@ use borrow.Author.Tests.{eqb-true, eqb-false, ltb-true, ltb-false}
 use Rattle.lists.specs.Member.{In, here, there, Rising, next}
 use Rattle.lists.proofs.Logic.{cases, decided}
 use Rattle.lists.proofs.Members.{rising-above}
-use Rattle.plan.specs.Plan.{size, kindByte, parent, children}
+use Rattle.plan.specs.Plan.{size, kindByte, children}
 use Rattle.plan.specs.Check.{Accepted}
-use Rattle.plan.specs.Under.{Under}
-use Rattle.plan.proofs.PlanLaws.{child-of, child-in, rising-children}
+use Rattle.plan.specs.Under.{Under, up}
+use Rattle.plan.proofs.PlanLaws.{child-of, rising-children}
 use Rattle.plan.proofs.AcceptedLaws.{accepted-ordered}
 use Rattle.plan.proofs.UnderLaws.{under-below, apart, through, under-root}
 use Rattle.trees.specs.Tree.{Forest, none, tree, treesOf, treesBelow, nodeCount}
 use Rattle.trees.specs.Numbering.{inPreorder}
-use Rattle.trees.proofs.AboveLaws.{preorder-told}
-use Rattle.trees.proofs.LaidLaws.{Laid, nothing, first, Alike, laid-alike}
-use Rattle.trees.proofs.OrderLaws.{Below, below-all}
+use Rattle.trees.proofs.LaidLaws.{Laid, first, Alike, laid-alike}
 use Rattle.trees.proofs.TreeLaws.{trees-same, trees-step}
 use Rattle.trees.proofs.RenumberLaws.{below-count}
 use Rattle.trees.proofs.WrittenLaws.{plan-laid}
@@ -28,59 +26,9 @@ use Rattle.template.specs.Claim.{Moves, Places}
 use Rattle.template.proofs.StepLaws.{step-marked, step-other, outside}
 use Rattle.template.proofs.CountLaws.{count-path}
 use Rattle.template.proofs.MoveLaws.{moved-low, laid-moved, laid-times}
+use Rattle.template.proofs.BlockLaws.{below, trees, Run, on, own-run, own-block}
 
 module _ (p : List ℕ) (ok : Accepted p) (ordered : inPreorder p ≡ true) where
-  below : (v : ℕ) → v < size p → Below p v (suc v) (treesBelow p v)
-  unfolding treesBelow
-  below v l = below-all p (accepted-ordered p ok) (preorder-told p (accepted-ordered p ok) ordered) (size p) v (omega arith) l
-
-  abbrev trees : List ℕ → Forest
-  trees cs = treesOf (kindByte p) (treesBelow p) cs
-
-  -- nodes whose subtrees stand one behind another, from n on
-  data Run : ℕ → List ℕ → Type 0 where
-    over : {n : ℕ} → Run n []
-    on : {n c : ℕ} {cs : List ℕ} → c ≡ n → Run (suc n + nodeCount (treesBelow p n)) cs → Run n (c ∷ cs)
-
-  -- the children of v from n on are cs: each of them is behind n and has v for its parent, and each such node is one of them
-  record Rest (v n : ℕ) (cs : List ℕ) : Type 0 where
-    children : (c : ℕ) → In c cs → (n ≤ c) × (c < size p) × (parent p c ≡ v)
-    all : (c : ℕ) → n ≤ c → c < size p → parent p c ≡ v → In c cs
-
-  children-run : (v n : ℕ) {low : ℕ} (cs : List ℕ) → v < n → Rising low cs → Rest v n cs → n + nodeCount (trees cs) ≤ size p → Laid p (trees cs) v n → Run n cs
-  unfolding treesOf nodeCount
-  children-run v n [] l rise r room h = over
-  children-run v n (c ∷ cs) l (next m rise) r room (first a e g h) =
-      let i = r .all n (omega arith) (omega arith) e in
-      let own : c ≡ n = least i in
-      let b = below n (omega arith) in
-      let step : Laid p (trees cs) v (suc n + nodeCount (treesBelow p n)) = rw own at h in
-      on own (children-run v (suc n + nodeCount (treesBelow p n)) cs (omega arith) rise (record {
-        children = λ d j. let k = r .children d (there j) in (behind own b d j k, k .1, k .2);
-        all = λ d i′ j k. other own d (r .all d (omega arith) j k) i′;
-      }) (let same : nodeCount (treesBelow p c) ≡ nodeCount (treesBelow p n) = ap (λ x. nodeCount (treesBelow p x)) own in omega arith) step)
-    where
-      least : In n (c ∷ cs) → c ≡ n
-      least (here q) = sym q
-      least (there i) = let a = rising-above rise i in let b = r .children c (here refl) .0 in absurd (omega arith)
-
-      behind : c ≡ n → Below p n (suc n) (treesBelow p n) → (d : ℕ) → In d cs → (n ≤ d) × (d < size p) × (parent p d ≡ v) → suc n + nodeCount (treesBelow p n) ≤ d
-      behind own b d j k = cases (decided (ltb d (suc n + nodeCount (treesBelow p n))))
-          (λ z. let a = rising-above rise j in let s = b .stays d (omega (arith, own)) (ltb-true d _ z) in absurd (omega (arith, k .2)))
-          (λ z. ltb-false d _ z)
-
-      other : c ≡ n → (d : ℕ) → In d (c ∷ cs) → suc n + nodeCount (treesBelow p n) ≤ d → In d cs
-      other own d (here q) l = absurd (omega (arith, q, own))
-      other own d (there i) l = i
-
-  own-run : (v : ℕ) → v < size p → Run (suc v) (children p v)
-  own-run v l =
-      let b : Below p v (suc v) (trees (children p v)) = rw (trees-step p (accepted-ordered p ok) v l) at (below v l) in
-      children-run v (suc v) (children p v) (omega arith) (rising-children p v) (record {
-        children = λ c i. let h = child-of p v i in let a = ok .below c (h .low) (h .high) in (omega (arith, h .of), h .high, h .of);
-        all = λ c i j k. child-in p v (record { low = omega arith; high = j; of = k });
-      }) (b .within) (b .laid)
-
   -- i times are added below m; q is any plan in which the repeated tree lies
   module _ (m : ℕ) (node : m < size p) (i : ℕ) (q : List ℕ) where
     abbrev size-below : ℕ
@@ -106,7 +54,7 @@ module _ (p : List ℕ) (ok : Accepted p) (ordered : inPreorder p ≡ true) wher
       high = omega arith;
       lines = λ w l k. record {
         before = λ z. absurd (omega arith);
-        copies = λ a b c d. laid-moved p q (suc m) (c * size-below) (treesBelow p m) m (suc m) (omega arith) (below m node .laid) (copy c d) w l k;
+        copies = λ a b c d. laid-moved p q (suc m) (c * size-below) (treesBelow p m) m (suc m) (omega arith) (below p ok ordered m node .laid) (copy c d) w l k;
         behind = λ z. absurd (omega arith);
       };
     }
@@ -121,11 +69,11 @@ module _ (p : List ℕ) (ok : Accepted p) (ordered : inPreorder p ≡ true) wher
       apart-from c k ne = outside p (accepted-ordered p ok) m (suc i) c (child-of p v k .high) (λ w. apart p ok v c d k child ne m w holds)
 
       -- behind the child d all moves
-      tail-lines : (n : ℕ) (cs : List ℕ) → v ≤ m → m + size-below < n → Laid p (trees cs) v n → Laid q (trees cs) v (n + i * size-below) → (w : ℕ) → n ≤ w → w < n + nodeCount (trees cs) → Line w
+      tail-lines : (n : ℕ) (cs : List ℕ) → v ≤ m → m + size-below < n → Laid p (trees p cs) v n → Laid q (trees p cs) v (n + i * size-below) → (w : ℕ) → n ≤ w → w < n + nodeCount (trees p cs) → Line w
       tail-lines n cs a b g h w k e = record {
         before = λ z. absurd (omega arith);
         copies = λ x y c z. absurd (omega arith);
-        behind = λ z. laid-moved p q (suc m) (i * size-below) (trees cs) v n (omega arith) g (rw (moved-low (suc m) (i * size-below) v (omega arith)) h) w k e;
+        behind = λ z. laid-moved p q (suc m) (i * size-below) (trees p cs) v n (omega arith) g (rw (moved-low (suc m) (i * size-below) v (omega arith)) h) w k e;
       }
 
       -- a node up to the marked one
@@ -133,15 +81,15 @@ module _ (p : List ℕ) (ok : Accepted p) (ordered : inPreorder p ≡ true) wher
       before-line w l a = record { before = λ z. a; copies = λ x y c z. absurd (omega arith); behind = λ z. absurd (omega arith) }
 
       -- the child d, and those behind it
-      walk-here : (cs : List ℕ) → v < d → ((c : ℕ) → In c cs → repeatedBelow p m (suc i) c ≡ treesBelow p c) → Laid p (trees (d ∷ cs)) v d → Laid q (repeatedTrees (d ∷ cs)) v d →
-          Lines d (d + nodeCount (trees (d ∷ cs)))
+      walk-here : (cs : List ℕ) → v < d → ((c : ℕ) → In c cs → repeatedBelow p m (suc i) c ≡ treesBelow p c) → Laid p (trees p (d ∷ cs)) v d → Laid q (repeatedTrees (d ∷ cs)) v d →
+          Lines d (d + nodeCount (trees p (d ∷ cs)))
       unfolding treesOf nodeCount
       walk-here cs b same (first k u g g′) (first k′ u′ h h′) =
           let deep = deeper h in
-          let others : repeatedTrees cs ≡ trees cs = trees-same (kindByte p) (repeatedBelow p m (suc i)) (treesBelow p) cs same in
+          let others : repeatedTrees cs ≡ trees p cs = trees-same (kindByte p) (repeatedBelow p m (suc i)) (treesBelow p) cs same in
           let count = count-path p ok m node i d (child-of p v child .high) holds in
           let z : suc d + nodeCount (repeatedBelow p m (suc i) d) ≡ suc d + nodeCount (treesBelow p d) + i * size-below = omega arith in
-          let tail : Laid q (trees cs) v (suc d + nodeCount (treesBelow p d) + i * size-below) = rw (others, z) at h′ in
+          let tail : Laid q (trees p cs) v (suc d + nodeCount (treesBelow p d) + i * size-below) = rw (others, z) at h′ in
           record {
             low = omega (arith, deep .low);
             high = omega (arith, deep .high);
@@ -153,10 +101,10 @@ module _ (p : List ℕ) (ok : Accepted p) (ordered : inPreorder p ≡ true) wher
           }
 
       -- a child n before d
-      walk-there : (n : ℕ) (cs : List ℕ) → repeatedBelow p m (suc i) n ≡ treesBelow p n → Laid p (trees (n ∷ cs)) v n → Laid q (repeatedTrees (n ∷ cs)) v n →
-          (Laid p (trees cs) v (suc n + nodeCount (treesBelow p n)) → Laid q (repeatedTrees cs) v (suc n + nodeCount (treesBelow p n)) →
-          Lines (suc n + nodeCount (treesBelow p n)) (suc n + nodeCount (treesBelow p n) + nodeCount (trees cs))) →
-          Lines n (n + nodeCount (trees (n ∷ cs)))
+      walk-there : (n : ℕ) (cs : List ℕ) → repeatedBelow p m (suc i) n ≡ treesBelow p n → Laid p (trees p (n ∷ cs)) v n → Laid q (repeatedTrees (n ∷ cs)) v n →
+          (Laid p (trees p cs) v (suc n + nodeCount (treesBelow p n)) → Laid q (repeatedTrees cs) v (suc n + nodeCount (treesBelow p n)) →
+          Lines (suc n + nodeCount (treesBelow p n)) (suc n + nodeCount (treesBelow p n) + nodeCount (trees p cs))) →
+          Lines n (n + nodeCount (trees p (n ∷ cs)))
       unfolding treesOf nodeCount
       walk-there n cs same (first k u g g′) (first k′ u′ h h′) again =
           let rest = again g′ (rw same at h′) in
@@ -171,8 +119,8 @@ module _ (p : List ℕ) (ok : Accepted p) (ordered : inPreorder p ≡ true) wher
                 (λ t. rest .lines w (ltb-false w (suc n + nodeCount (treesBelow p n)) t) (omega arith)));
           }
 
-      walk : (n : ℕ) {low : ℕ} (cs : List ℕ) → v < n → Rising low cs → Run n cs → ((c : ℕ) → In c cs → In c (children p v)) → In d cs →
-          Laid p (trees cs) v n → Laid q (repeatedTrees cs) v n → Lines n (n + nodeCount (trees cs))
+      walk : (n : ℕ) {low : ℕ} (cs : List ℕ) → v < n → Rising low cs → Run p n cs → ((c : ℕ) → In c cs → In c (children p v)) → In d cs →
+          Laid p (trees p cs) v n → Laid q (repeatedTrees cs) v n → Lines n (n + nodeCount (trees p cs))
       walk n (c ∷ cs) b (next x rise) (on own run) sub (here e) g h =
           let y : c ≡ d = sym e in
           let z : n ≡ d = sym own ∙ y in
@@ -191,8 +139,8 @@ module _ (p : List ℕ) (ok : Accepted p) (ordered : inPreorder p ≡ true) wher
         let b = ok .below (d .0) (c .low) (c .high) in
         let step = trees-step p (accepted-ordered p ok) v l in
         rw step (walk v l (d .0) (d .1) (d .2) (path f (d .0) (omega (arith, c .of)) (c .high) (d .2))
-        (suc v) (children p v) (omega arith) (rising-children p v) (own-run v l) (λ o k. k) (d .1)
-        (rw step at (below v l .laid)) (rw (step-other p (accepted-ordered p ok) m (suc i) v l n) at h)))
+        (suc v) (children p v) (omega arith) (rising-children p v) (own-run p ok ordered v l) (λ o k. k) (d .1)
+        (rw step at (below p ok ordered v l .laid)) (rw (step-other p (accepted-ordered p ok) m (suc i) v l n) at h)))
 
 pub repeat-places : (p : List ℕ) → Accepted p → inPreorder p ≡ true → (m : ℕ) → m < size p → (i : ℕ) → Places p m i (repeated p m (suc i))
 unfolding repeated repeatedTree
@@ -206,6 +154,7 @@ repeat-places p ok ordered m node i = go (plan-laid (repeatedTree p m (suc i)))
         let all = path p ok ordered m node i q (size p) 0 (omega arith) (ok .some) (under-root p ok (suc m) m (omega arith) node) h in
         let few = below-count p ok in
         record {
+          block = own-block p ok ordered m node;
           before = λ v l. cases (decided (eqb v 0))
               (λ z. let e = eqb-true v 0 z in rw e (k, u ∙ sym (ok .root)))
               (λ z. let n = eqb-false v 0 z in let a = all .lines v (omega arith) (omega arith) .before l in (sym (a .kinds), sym (a .parents)));

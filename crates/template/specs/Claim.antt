@@ -8,6 +8,7 @@ use lib.Dec.{eqb, leb}
 use lib.ListN.{length, drop}
 use Rattle.plan.specs.Plan.{size, kindByte, parent, children}
 use Rattle.plan.specs.Check.{Accepted, checkNumber, fitNumber}
+use Rattle.plan.specs.Under.{Under}
 use Rattle.trees.specs.Tree.{treesOf, treesBelow, treeOf, nodeCount}
 use Rattle.trees.specs.Numbering.{renumbered, inPreorder}
 use Rattle.template.specs.Repeat.{times, repeatedBelow, repeatedTree, repeated, moved}
@@ -57,8 +58,10 @@ pub record Moves (p q : List ℕ) (x s v : ℕ) : Type 0 where
   pub kinds : kindByte q (v + s) ≡ kindByte p v
   pub parents : parent q (v + s) ≡ moved x s (parent p v)
 
--- S9: where the nodes of p stand in q, if i times are added below m: those up to m, the copies of those below m, and those behind them
+-- S9: where the nodes of p stand in q, if i times are added below m: m's subtree in p; in q the nodes up to m, the copies of those below m, and
+-- those behind them
 pub record Places (p : List ℕ) (m i : ℕ) (q : List ℕ) : Type 0 where
+  pub block : (v : ℕ) → v < size p → Under p m v ↔ ((m ≤ v) × (v ≤ m + nodeCount (treesBelow p m)))
   pub before : (v : ℕ) → v ≤ m → (kindByte q v ≡ kindByte p v) × (parent q v ≡ parent p v)
   pub copies : (v c : ℕ) → m < v → v ≤ m + nodeCount (treesBelow p m) → c ≤ i → Moves p q (suc m) (c * nodeCount (treesBelow p m)) v
   pub behind : (v : ℕ) → m + nodeCount (treesBelow p m) < v → v < size p → Moves p q (suc m) (i * nodeCount (treesBelow p m)) v
