@@ -417,7 +417,7 @@ pub extern "C" fn vulcedar_rehearse(text: &[u8], out: &mut [u8]) -> u32
 pub extern "C" fn vulcedar_desk_check(plan: &[u8]) -> u32
     ensures { λ r. ⌜ r ≡ result (deskCheck (now (plan .entry))) 0 0 ⌝ }
 {
-    packed(desk_calls::check(plan), 0)
+    packed(desk_layout::check(plan), 0)
 }
 
 #[no_mangle]

@@ -18,8 +18,8 @@ use Rattle.plan.specs.Check.{checkNumber}
 use Rattle.desks.specs.Desk.{nodes, deskOf, plainByte, plain, threes, desksLow, deskCheck, DeskAccepted, used, usedBelow, deskRows}
 use Rattle.desks.proofs.DeskLaws.{same-nodes}
 use Rattle.desks.proofs.RankLaws.{rank-end}
-use Rattle.desk_calls.specs.Tables.{isMarked, markedBelow, numberedByte, markOf, rowByte}
-use Rattle.desk_calls.proofs.SplitLaws.{fill-front}
+use Rattle.desk_layout.specs.Tables.{isMarked, markedBelow, numberedByte, markOf, rowByte}
+use Rattle.desk_layout.proofs.SplitLaws.{fill-front}
 
 -- THE CHECK, test by test
 pub threes-few : (p : List ℕ) → threes p ≡ true → nodes p ≤ 160

@@ -17,7 +17,7 @@ use Rattle.lists.proofs.Members.{any-append}
 use Rattle.lists.proofs.Filling.{Filling, fill-none, fill-turn}
 use Rattle.lists.proofs.Table.{up-suc, table-by}
 use Rattle.desks.specs.Desk.{nodes, deskOf, plainByte, plain, desksLow, used}
-use Rattle.desk_calls.specs.Tables.{markOf}
+use Rattle.desk_layout.specs.Tables.{markOf}
 
 -- what a loop has written so far is the front of a table
 pub fill-front : (f : ℕ → ℕ) (n : ℕ) (out : List ℕ) (v : ℕ) → Filling f n out v → take v out ≡ table f v

@@ -2,8 +2,8 @@
 use native.Mathlib.Omega.{arith}
 use borrow.Author.Tests.{eq-eqb, ne-eqb}
 use borrow.Author.Needs.{needs}
-use Rattle.desk_calls.proofs.next_row.Statement.{statement}
-use Rattle.desk_calls.proofs.next_row.Tie as tie
+use Rattle.desk_layout.proofs.next_row.Statement.{statement}
+use Rattle.desk_layout.proofs.next_row.Tie as tie
 
 add-result : tie.Need-add-result
 add-result c = search needs

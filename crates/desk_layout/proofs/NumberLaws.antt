@@ -15,7 +15,7 @@ use Rattle.lists.proofs.Logic.{cases, decided}
 use Rattle.lists.proofs.Keep.{keep-short}
 use Rattle.lists.proofs.Table.{up-length, table-by}
 use Rattle.desks.proofs.RankLaws.{rank-end}
-use Rattle.desk_calls.specs.Tables.{isMarked, markedBelow, numberedByte}
+use Rattle.desk_layout.specs.Tables.{isMarked, markedBelow, numberedByte}
 
 marked-turn : (fs : List ℕ) (d : ℕ) → markedBelow fs (d + 1) ≡ markedBelow fs d + cond (isMarked fs d) 1 0
 unfolding markedBelow

@@ -4,10 +4,10 @@ use mathlib.Core.Logic.{_⊎_, ⊎-elim, inl, inr}
 use Prim.Native.Nat.{_+_, _*_, _-_, _≤_, _<_}
 use lib.ListN.{getD, set}
 use native.Mathlib.Omega.{arith}
-use Rattle.desk_calls.proofs.SplitLaws.{within-three, Splitting, split-none, split-turn, split-room, split-front, split-marks, split-low, split-above}
+use Rattle.desk_layout.proofs.SplitLaws.{within-three, Splitting, split-none, split-turn, split-room, split-front, split-marks, split-low, split-above}
 use borrow.Author.Needs.{needs}
-use Rattle.desk_calls.proofs.split.Statement.{statement}
-use Rattle.desk_calls.proofs.split.Tie as tie
+use Rattle.desk_layout.proofs.split.Statement.{statement}
+use Rattle.desk_layout.proofs.split.Tie as tie
 
 abbrev Inv-loop : tie.InvT-loop
 Inv-loop plan two₀ row₀ n top₀ v₀ two row top v = Splitting plan two row top v

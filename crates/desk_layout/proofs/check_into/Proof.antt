@@ -5,10 +5,10 @@ use native.Mathlib.Omega.{arith}
 use Rattle.plan.specs.Check.{checkNumber}
 use Rattle.checker.proofs.TestLaws.{passed, failed}
 use Rattle.desks.specs.Desk.{plain, threes}
-use Rattle.desk_calls.proofs.PrepareLaws.{threes-few, front-is, front-length, front-room, check-1, check-plain, check-22, check-0}
+use Rattle.desk_layout.proofs.PrepareLaws.{threes-few, front-is, front-length, front-room, check-1, check-plain, check-22, check-0}
 use borrow.Author.Needs.{needs}
-use Rattle.desk_calls.proofs.check_into.Statement.{statement}
-use Rattle.desk_calls.proofs.check_into.Tie as tie
+use Rattle.desk_layout.proofs.check_into.Statement.{statement}
+use Rattle.desk_layout.proofs.check_into.Tie as tie
 
 long : (c : tie.Else1) → threes (c .before .before .before .before .before .args .plan .now) ≡ true
 long c = passed _ _ (c .before .length-ok .ensures) (c .if1 .left)

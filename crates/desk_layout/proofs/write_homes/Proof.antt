@@ -5,10 +5,10 @@ use native.Mathlib.Omega.{arith}
 use lib.ListN.{getD}
 use Rattle.lists.proofs.Filling.{Filling, fill-none, fill-turn}
 use Rattle.desks.specs.Desk.{nodes, deskOf}
-use Rattle.desk_calls.proofs.PrepareLaws.{nodes-few, home-in, homes-are}
+use Rattle.desk_layout.proofs.PrepareLaws.{nodes-few, home-in, homes-are}
 use borrow.Author.Needs.{needs}
-use Rattle.desk_calls.proofs.write_homes.Statement.{statement}
-use Rattle.desk_calls.proofs.write_homes.Tie as tie
+use Rattle.desk_layout.proofs.write_homes.Statement.{statement}
+use Rattle.desk_layout.proofs.write_homes.Tie as tie
 
 abbrev Inv-loop : tie.InvT-loop
 Inv-loop plan row home₀ n v₀ home v = (v ≤ nodes plan) × Filling (λ u. getD row (deskOf plan u) 0) 160 home v

@@ -1,7 +1,7 @@
 -- Assumes nothing.
 use borrow.Author.Tests.{eq-eqb, ne-eqb}
-use Rattle.desk_calls.proofs.numbered.Statement.{statement}
-use Rattle.desk_calls.proofs.numbered.Tie as tie
+use Rattle.desk_layout.proofs.numbered.Statement.{statement}
+use Rattle.desk_layout.proofs.numbered.Tie as tie
 
 returns : tie.Need-returns
 returns c = rw (eq-eqb _ _ (c .if1 .taken))

@@ -2,10 +2,10 @@
 use mathlib.Core.Path.{refl, _∙_}
 use Prim.Native.Nat.{_-_}
 use native.Mathlib.Omega.{arith}
-use Rattle.desk_calls.proofs.NumberLaws.{Numbering, numbering-none, count-few, numbering-turn, numbered-count, numbered-all}
+use Rattle.desk_layout.proofs.NumberLaws.{Numbering, numbering-none, count-few, numbering-turn, numbered-count, numbered-all}
 use borrow.Author.Needs.{needs}
-use Rattle.desk_calls.proofs.number_rows.Statement.{statement}
-use Rattle.desk_calls.proofs.number_rows.Tie as tie
+use Rattle.desk_layout.proofs.number_rows.Statement.{statement}
+use Rattle.desk_layout.proofs.number_rows.Tie as tie
 
 abbrev Inv-loop : tie.InvT-loop
 Inv-loop row₀ top count₀ d₀ row count d = Numbering row₀ top row count d

@@ -2,9 +2,9 @@
 use mathlib.Core.Path.{refl}
 use native.Mathlib.Omega.{arith}
 use Rattle.desks.specs.Desk.{deskOf}
-use Rattle.desk_calls.proofs.SplitLaws.{within-three}
-use Rattle.desk_calls.proofs.desk_at.Statement.{statement}
-use Rattle.desk_calls.proofs.desk_at.Tie as tie
+use Rattle.desk_layout.proofs.SplitLaws.{within-three}
+use Rattle.desk_layout.proofs.desk_at.Statement.{statement}
+use Rattle.desk_layout.proofs.desk_at.Tie as tie
 
 mul-result : tie.Need-mul-result
 mul-result c = let h = within-three (c .args .plan .now) _ 2 (c .pre) (omega arith) in omega arith

@@ -4,10 +4,10 @@ use lib.ListN.{length}
 use Rattle.lists.proofs.Table.{table-length}
 use Rattle.desks.specs.Desk.{DeskAccepted}
 use Rattle.desks.proofs.DeskLaws.{check-accepts}
-use Rattle.desk_calls.proofs.PrepareLaws.{rows-are, table-rows}
+use Rattle.desk_layout.proofs.PrepareLaws.{rows-are, table-rows}
 use borrow.Author.Needs.{needs}
-use Rattle.desk_calls.proofs.prepare.Statement.{statement}
-use Rattle.desk_calls.proofs.prepare.Tie as tie
+use Rattle.desk_layout.proofs.prepare.Statement.{statement}
+use Rattle.desk_layout.proofs.prepare.Tie as tie
 
 ok : (c : tie.Else1) → DeskAccepted (c .before .before .before .before .before .before .before .before .before .before .before .before .before .args .plan .now)
 ok c = check-accepts _ (sym (c .before .before .before .before .before .before .check-into .ensures .0) ∙ c .if1 .left)

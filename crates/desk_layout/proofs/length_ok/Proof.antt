@@ -1,8 +1,8 @@
 -- Assumes nothing.
 use borrow.Author.Tests.{eq-eqb, ne-eqb, lt-ltb, le-ltb}
 use Rattle.desks.specs.Desk.{threes}
-use Rattle.desk_calls.proofs.length_ok.Statement.{statement}
-use Rattle.desk_calls.proofs.length_ok.Tie as tie
+use Rattle.desk_layout.proofs.length_ok.Statement.{statement}
+use Rattle.desk_layout.proofs.length_ok.Tie as tie
 
 returns : tie.Need-returns
 unfolding threes
