@@ -116,18 +116,30 @@ fn repeat_below(plan: &[u8], m: usize, count: u32, out: &mut [u8]) -> Made
     links::link_all(plan, &mut first, &mut next);
     let block = can_repeat(checker::kind_at(plan, m));
     if !(block & one_child(plan, &first, &next, m)) {
-        return Made { number: 23, nodes: 0 };
+        return Made {
+            number: 23,
+            nodes: 0,
+        };
     }
     if !times_ok(count) {
-        return Made { number: 24, nodes: 0 };
+        return Made {
+            number: 24,
+            nodes: 0,
+        };
     }
     let times = count as usize;
     let nodes = plan::node_count(plan) + (times - 1) * count_below(plan, &first, &next, m);
     if 160 < nodes {
-        return Made { number: 25, nodes: 0 };
+        return Made {
+            number: 25,
+            nodes: 0,
+        };
     }
     place_repeated(plan, &first, &next, out, 0, 255, 0, m, times);
-    Made { number: 0, nodes: nodes as u8 }
+    Made {
+        number: 0,
+        nodes: nodes as u8,
+    }
 }
 
 // One block for each channel: the child's subtree of the marked block `node` stands `count` times. 1 to 6 by the check, 7 where `out` is not
@@ -138,11 +150,17 @@ pub fn repeat(plan: &[u8], node: u32, count: u32, out: &mut [u8]) -> Made
 {
     let bad = checker::fit(plan, out.len() == 320);
     if bad != 0 {
-        return Made { number: bad, nodes: 0 };
+        return Made {
+            number: bad,
+            nodes: 0,
+        };
     }
     let m = node as usize;
     if plan::node_count(plan) <= m {
-        return Made { number: 8, nodes: 0 };
+        return Made {
+            number: 8,
+            nodes: 0,
+        };
     }
     repeat_below(plan, m, count, out)
 }

@@ -87,10 +87,10 @@ trees =
     ∷ grown (one 8) 0 3 (tree 8 (leaf (leaf (leaf none))) none) 4 (8 ∷ 255 ∷ 1 ∷ 0 ∷ 1 ∷ 0 ∷ 1 ∷ 0 ∷ [])
     ∷ grown day 2 1 (tree 2 (leaf (tree 3 (tree 2 (leaf (leaf none)) none) (leaf none))) none) 7 day
     ∷ grown day 2 2 (tree 2 (leaf (tree 3 (tree 2 (leaf (leaf none)) (tree 2 (leaf (leaf none)) none)) (leaf none))) none) 10
-        (2 ∷ 255 ∷ 1 ∷ 0 ∷ 3 ∷ 0 ∷ 2 ∷ 2 ∷ 1 ∷ 3 ∷ 1 ∷ 3 ∷ 2 ∷ 2 ∷ 1 ∷ 6 ∷ 1 ∷ 6 ∷ 1 ∷ 0 ∷ [])
+    (2 ∷ 255 ∷ 1 ∷ 0 ∷ 3 ∷ 0 ∷ 2 ∷ 2 ∷ 1 ∷ 3 ∷ 1 ∷ 3 ∷ 2 ∷ 2 ∷ 1 ∷ 6 ∷ 1 ∷ 6 ∷ 1 ∷ 0 ∷ [])
     ∷ grown mixed 1 1 (tree 2 (tree 3 (tree 2 (leaf (leaf none)) none) (leaf none)) none) 6 (2 ∷ 255 ∷ 3 ∷ 0 ∷ 2 ∷ 1 ∷ 1 ∷ 2 ∷ 1 ∷ 2 ∷ 1 ∷ 0 ∷ [])
     ∷ grown mixed 1 2 (tree 2 (tree 3 (tree 2 (leaf (leaf none)) (tree 2 (leaf (leaf none)) none)) (leaf none)) none) 9
-        (2 ∷ 255 ∷ 3 ∷ 0 ∷ 2 ∷ 1 ∷ 1 ∷ 2 ∷ 1 ∷ 2 ∷ 2 ∷ 1 ∷ 1 ∷ 5 ∷ 1 ∷ 5 ∷ 1 ∷ 0 ∷ [])
+    (2 ∷ 255 ∷ 3 ∷ 0 ∷ 2 ∷ 1 ∷ 1 ∷ 2 ∷ 1 ∷ 2 ∷ 2 ∷ 1 ∷ 1 ∷ 5 ∷ 1 ∷ 5 ∷ 1 ∷ 0 ∷ [])
     ∷ grown nested 0 2 (tree 4 (tree 5 (leaf none) (tree 5 (leaf none) none)) none) 5 (4 ∷ 255 ∷ 5 ∷ 0 ∷ 1 ∷ 1 ∷ 5 ∷ 0 ∷ 1 ∷ 3 ∷ [])
     ∷ grown nested 1 2 (tree 4 (tree 5 (leaf (leaf none)) none) none) 4 (4 ∷ 255 ∷ 5 ∷ 0 ∷ 1 ∷ 1 ∷ 1 ∷ 1 ∷ [])
     ∷ []

@@ -74,22 +74,22 @@ cast-place-copies : (t : ℕ) → lts.Need-cast-place-copies (callees t) (here t
 cast-place-copies t c = omega (arith, place-small (c .before .before .before .before .before .before .before .before .before .before .before .pre .1 .1))
 
 place-copies-requires : (t : ℕ) → lts.Need-place-copies-requires (callees t) (here t) place-repeated.Post Inv μ
-place-copies-requires t c κs = 
+place-copies-requires t c κs =
     let r = c .before .before .before .before .before .before .before .before .before .before .before .pre .1 in
     copies-ready (r .0) _ (c .before .before .before .before .before .before .before .before .before .before .before .args .u) (r .1) (c .before .if1 .taken) _ (c .before .before .wide .ensures) _ _ (c .before .before .before .before .before .before .before .kind-at .ensures) (c .before .before .before .before .before .before .set-line .ensures)
 
 same-length : (t : ℕ) → lts.Need-same-length (callees t) (here t) place-repeated.Post Inv μ
-same-length t c = 
+same-length t c =
     let r = c .before .before .before .before .before .before .before .before .before .before .before .before .before .before .pre .1 in
     copies-long (r .0) _ (c .before .before .before .before .before .before .before .before .before .before .before .before .before .before .args .u) (r .1) (c .before .before .before .before .if1 .taken) _ (c .before .before .before .before .before .wide .ensures) _ _ (c .before .before .before .before .before .before .before .before .before .before .kind-at .ensures) (c .before .before .before .before .before .before .before .before .before .set-line .ensures) _ _ (c .before .before .place-copies .ensures)
 
 returns : (t : ℕ) → lts.Need-returns (callees t) (here t) place-repeated.Post Inv μ
-returns t c = 
+returns t c =
     let r = c .before .before .before .before .before .before .before .before .before .before .before .before .before .before .pre .1 in
     copies-placed (r .0) _ (c .before .before .before .before .before .before .before .before .before .before .before .before .before .before .args .u) (r .1) (c .before .before .before .before .if1 .taken) _ (c .before .before .before .before .before .wide .ensures) _ _ (c .before .before .before .before .before .before .before .before .before .before .kind-at .ensures) (c .before .before .before .before .before .before .before .before .before .set-line .ensures) _ _ (c .before .before .place-copies .ensures)
 
 loop-holds : (t : ℕ) → lts.Need-loop-holds (callees t) (here t) place-repeated.Post Inv μ
-loop-holds t c = 
+loop-holds t c =
     let r = c .before .before .before .before .before .before .before .before .before .before .pre .1 in
     walk-first (r .1) (step-other _ (accepted-ordered _ (r .0 .accepted)) _ _ _ (r .1 .node) (c .if1 .left)) _ _ _ (omega arith) (c .before .wide .ensures)
 
@@ -133,7 +133,7 @@ loop-less : (t : ℕ) → lts.Need-loop-less (callees t) (here t) place-repeated
 loop-less t c = rw (c .wide2 .ensures) (walk-less (turn t (c .before .before .before .before .before)) (c .before .before .before .before .loop-test .taken))
 
 loop-again : (t : ℕ) → lts.Need-loop-again (callees t) (here t) place-repeated.Post Inv μ
-loop-again t c = 
+loop-again t c =
     let l = (c .before .before .before .before .loop-test .taken) in
     let h = c .before .before .before .before .before .before .before .before .before .before .before .before .before .before .before .before .pre .1 .0 in
     let t = (turn t (c .before .before .before .before .before)) in
