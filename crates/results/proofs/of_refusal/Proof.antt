@@ -2,10 +2,10 @@
 use mathlib.Core.Path.{sym, ap, _∙_}
 use Rattle.site.specs.declared.Verdict.the-variants.{Refused}
 use Rattle.site.specs.Verdict.{reportOf}
-use Rattle.vulcedar.specs.Result.{ofReport, ofVerdict}
+use Rattle.results.specs.Result.{ofReport, ofVerdict}
 use borrow.Author.Needs.{needs}
-use Rattle.vulcedar.proofs.of_refusal.Statement.{statement}
-use Rattle.vulcedar.proofs.of_refusal.Tie as tie
+use Rattle.results.proofs.of_refusal.Statement.{statement}
+use Rattle.results.proofs.of_refusal.Tie as tie
 
 enum-known-why : tie.Need-enum-known-why
 enum-known-why c = search needs

@@ -17,10 +17,6 @@ use Rattle.journal.specs.Journal.{Kept, Undone}
 use Rattle.points.specs.Points.{Naming}
 use Rattle.rewind.specs.Return.{Returned}
 
--- K5: 1.7.0, as 65536 times its first number, 256 times its second, and its third
-unfoldable pub version : ℕ
-version = 65536 * 1 + 256 * 7 + 0
-
 -- K1: the number in bits 0 to 7, the event's site in bits 8 to 15, a value in bits 16 to 31
 abbrev pub result : ℕ → ℕ → ℕ → ℕ
 result n q v = n + 256 * q + 65536 * v

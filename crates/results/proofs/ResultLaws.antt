@@ -21,7 +21,7 @@ use Rattle.journal.specs.declared.Entry.{Entry}
 use Rattle.journal.specs.Journal.{Kept, kept, Undone, undone}
 use Rattle.points.specs.Points.{points, Naming, naming}
 use Rattle.rewind.specs.Return.{Returned, returned}
-use Rattle.vulcedar.specs.Result.{result, ofWritten, ofVerdict, ofRuling, ofText, AsKept, AsUndone, AsNamed, AsReturned}
+use Rattle.results.specs.Result.{result, ofWritten, ofVerdict, ofRuling, ofText, AsKept, AsUndone, AsNamed, AsReturned}
 
 module _ (p : List ℕ) (code node : ℕ) (b b′ : List ℕ) (w : Written) (h : writeOf p code node b ≡ filled b′ w) where
   pub done-short : (g : WrittenGuard) → w ≡ Done g → g .length ≤ 290

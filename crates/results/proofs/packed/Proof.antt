@@ -1,8 +1,8 @@
 -- Assumes nothing.
 use native.Mathlib.Omega.{arith}
 use borrow.Author.Needs.{needs}
-use Rattle.vulcedar.proofs.packed.Statement.{statement}
-use Rattle.vulcedar.proofs.packed.Tie as tie
+use Rattle.results.proofs.packed.Statement.{statement}
+use Rattle.results.proofs.packed.Tie as tie
 
 wide32-requires : tie.Need-wide32-requires
 wide32-requires c κs = search needs

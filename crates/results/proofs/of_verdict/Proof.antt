@@ -1,9 +1,9 @@
 -- The verdict's report, packed. Assumes nothing.
 use mathlib.Core.Path.{ap, _∙_}
-use Rattle.vulcedar.specs.Result.{ofReport}
+use Rattle.results.specs.Result.{ofReport}
 use borrow.Author.Needs.{needs}
-use Rattle.vulcedar.proofs.of_verdict.Statement.{statement}
-use Rattle.vulcedar.proofs.of_verdict.Tie as tie
+use Rattle.results.proofs.of_verdict.Statement.{statement}
+use Rattle.results.proofs.of_verdict.Tie as tie
 
 report-of-requires : tie.Need-report-of-requires
 report-of-requires c κs = search needs
