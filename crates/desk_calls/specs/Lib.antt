@@ -1,2 +1,2 @@
--- Letters: as in desks and journal.
+-- Letters: as in desks and keeping.
 pub mod Entries

@@ -1,5 +1,6 @@
 // A plan with desks, checked and taken apart: its plain plan and the two tables of its layout, in arrays that the caller lends. The calls on such plans
-// build on this. What is prepared is specs/Tables.antt. Only `check_into` and `prepare` have a `requires`: how long the lent arrays are, and that no desk is marked yet.
+// build on this. What is prepared is specs/Tables.antt. Of the public functions `check_into` and `prepare` have a `requires`: how long the lent arrays are,
+// and that no desk is marked yet.
 ghost use mathlib.Core.Path.{_≡_};
 ghost use mathlib.Core.Bool.{true, cond};
 ghost use Prim.Native.Nat.{ℕ, _+_, _*_, _≤_, _<_};
@@ -9,6 +10,7 @@ ghost use Rattle.lists.specs.Seq.{table};
 ghost use Rattle.desks.specs.Desk.{nodes, deskOf, plain, threes, desksLow, deskCheck, DeskAccepted, used};
 ghost use Rattle.desk_layout.specs.Tables.{markedBelow, numberedByte, markOf, rowByte, Prepared};
 
+// How many nodes a plan has, at three bytes each.
 pub fn node_count(plan: &[u8]) -> usize
     ensures { λ r. ⌜ r ≡ nodes (now (plan .entry)) ⌝ }
 {

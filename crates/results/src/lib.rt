@@ -3,18 +3,21 @@ ghost use mathlib.Core.Path.{_≡_};
 ghost use Rattle.site.specs.declared.Verdict.the-variants.{Refused};
 ghost use Rattle.results.specs.Result.{result, ofVerdict};
 
+// A number and a site, without a value.
 pub fn packed(number: u8, site: u8) -> u32
     ensures { λ r. ⌜ r ≡ result number site 0 ⌝ }
 {
     plan::wide32(number) + 256 * plan::wide32(site)
 }
 
+// A number, a site and a value.
 pub fn with_value(number: u8, site: u8, value: u8) -> u32
     ensures { λ r. ⌜ r ≡ result number site value ⌝ }
 {
     packed(number, site) + 65536 * plan::wide32(value)
 }
 
+// The result of a refusal.
 pub fn of_refusal(why: site::Refusal) -> u32
     ensures { λ r. ⌜ r ≡ ofVerdict (Refused why) ⌝ }
 {
@@ -26,6 +29,7 @@ pub fn of_refusal(why: site::Refusal) -> u32
     }
 }
 
+// The result of a verdict.
 pub fn of_verdict(v: site::Verdict) -> u32
     ensures { λ r. ⌜ r ≡ ofVerdict v ⌝ }
 {
