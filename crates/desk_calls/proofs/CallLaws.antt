@@ -2,18 +2,13 @@
 use mathlib.Core.Path.{_≡_, refl, sym, _∙_, ap, subst}
 use mathlib.Core.Bool.{Bool, true, false, not, _&&_}
 use mathlib.Core.List.{List}
-use mathlib.Core.Logic.{_⊎_, inl, inr}
-use Prim.Native.Nat.{ℕ, _*_, _-_, _≤_, _<_}
-use native.Mathlib.Nat.{mul-le-mul-right}
+use Prim.Native.Nat.{ℕ, _*_, _≤_, _<_}
 use native.Mathlib.Omega.{arith}
-use borrow.Author.Tests.{ne-eqb, eq-eqb, eqb-true, eqb-false, ltb-true, ltb-false, lt-ltb, le-leb, leb-true, not-false}
+use borrow.Author.Tests.{ne-eqb, eq-eqb, eqb-true, eqb-false, ltb-true, lt-ltb, le-leb, leb-true, not-false}
 use lib.Dec.{eqb, ltb, leb}
-use lib.ListN.{length, getD, take, set, length-take}
-use lib.Seq.{getD-take, set-out}
-use Rattle.lists.specs.Seq.{upFrom}
-use Rattle.lists.proofs.Logic.{cases, decided, no-bool, and-left, and-right, and-join}
-use Rattle.lists.proofs.Keep.{keep-short}
-use Rattle.lists.proofs.Table.{table-length, table-at, up-length}
+use lib.ListN.{length, take, set}
+use lib.Seq.{set-out}
+use Rattle.lists.proofs.Logic.{cases, decided, and-left, and-right, and-join}
 use Rattle.plan.specs.Plan.{size}
 use Rattle.plan.specs.Check.{fitNumber}
 use Rattle.plan.proofs.Main.{check-exact, fit-exact}
@@ -30,8 +25,7 @@ use Rattle.site.specs.Step.{Stepped, stepped, stepInvalid, decide, stepAt}
 use Rattle.site.proofs.StepLaws.{step-tested, step-valid, step-invalid}
 use Rattle.job.specs.Simulation.{stepBy, Simulated, simulated, stateFits, simulate, endMarks}
 use Rattle.job.proofs.StepLaws.{unfit-refused}
-use Rattle.layout.specs.Layout.{via, layoutBy, Laid}
-use Rattle.layout.proofs.TableLaws.{via-in, via-past}
+use Rattle.layout.specs.Layout.{via, layoutBy}
 use Rattle.layout.proofs.StepLaws.{simulate-event, simulate-message, happen-refused, tell-refused}
 use Rattle.simulation.specs.Run.{recordNumber, recordByOn}
 use Rattle.simulation.proofs.RecordLaws.{record-refused, record-done}
@@ -41,13 +35,15 @@ use Rattle.journal.proofs.UndoLaws.{keep-room}
 use Rattle.keeping.specs.Keeping.{Keeps, KeptBy, Undoes}
 use Rattle.points.specs.Points.{points, pointsFit}
 use Rattle.rewind.specs.Return.{Returned, returned, pointUndoFits, pointUndoOf, backFits, pointBackOf}
-use Rattle.desks.specs.Desk.{nodes, deskOf, plain, deskCheck, DeskAccepted, used, usedBelow, deskRow, deskLayout}
+use Rattle.desks.specs.Desk.{nodes, plain, deskCheck, DeskAccepted, deskRow, deskLayout}
 use Rattle.desks.specs.Calls.{ownDesk, atDesk, stepAtDesk, keptAtDesk, deskStepOf, deskSimulateOf, deskKeepOf, deskUndoOf, deskPointUndoOf, deskPointBackOf, deskRecordByInto}
-use Rattle.desks.proofs.DeskLaws.{same-nodes, desk-rows}
+use Rattle.desks.proofs.DeskLaws.{same-nodes}
 use Rattle.desks.proofs.CallLaws.{at-number, on-plain, desk-step, keep-plain, undo-plain, point-undo-plain, point-back-plain, record-plain}
-use Rattle.desks.proofs.AlikeLaws.{Alike, step-alike, keep-alike, undo-alike, point-undo-alike, point-back-alike, marks-alike}
-use Rattle.desk_calls.specs.Tables.{rowByte, Prepared, DeskKeeps, DeskUndoes}
-use Rattle.desk_calls.proofs.PrepareLaws.{nodes-few, front-is}
+use Rattle.desks.proofs.AlikeLaws.{step-alike, keep-alike, undo-alike, point-undo-alike, point-back-alike, marks-alike}
+use Rattle.desk_layout.specs.Tables.{Prepared}
+use Rattle.desk_layout.proofs.PrepareLaws.{front-is}
+use Rattle.desk_layout.proofs.LayoutLaws.{alike, plan-is, laid-plain, fits-is}
+use Rattle.desk_calls.specs.Entries.{DeskKeeps, DeskUndoes}
 
 -- a valid event is known
 known-by : (p : List ℕ) (code node : ℕ) {a b : Bool} → Valid p a b code node → known p code node ≡ true
@@ -142,75 +138,6 @@ module _ (p : List ℕ) (rows : ℕ) (two home row : List ℕ) (s : Prepared p r
   abbrev lay : Layout
   lay = layoutBy rows home
 
-  pub plan-is : take (2 * n) two ≡ plain p
-  plan-is = front-is p two (s .front) n e
-
-  pub plan-size : size (take (2 * n) two) ≡ n
-  plan-size = ap size plan-is ∙ same-nodes p ∙ sym e
-
-  rows-few : rows ≤ 160
-  unfolding usedBelow
-  rows-few = let h = keep-short (used p) (upFrom 0 160) in omega (arith, s .count, up-length 0 160)
-
-  -- the state's length can be counted
-  pub length-few : rows * n ≤ 25600
-  length-few = let h = nodes-few p ok in let m = mul-le-mul-right n rows-few in omega (arith, m)
-
-  -- THE TABLES are the layout
-  home-at : (v : ℕ) → v < nodes p → via home v ≡ deskRow p (deskOf p v)
-  unfolding rowByte deskRow
-  home-at v l =
-      let long : nodes p ≤ length home = omega (arith, length-take (nodes p) home, ap length (s .homes), table-length (λ u. rowByte p (deskOf p u)) (nodes p)) in
-      via-in home v (omega arith) ∙ sym (getD-take (nodes p) home v 0 l) ∙ ap (λ (h : List ℕ). getD h v 0) (s .homes)
-      ∙ table-at (λ u. rowByte p (deskOf p u)) (nodes p) v l ∙ rw (desk-rows p ok .nodes-use v l)
-
-  row-at : (d : ℕ) → d < 256 → via row d ≡ rowByte p d
-  row-at d l = via-in row d (omega (arith, ap length (s .named), table-length (rowByte p) 256)) ∙ ap (λ (r : List ℕ). getD r d 0) (s .named) ∙ table-at (rowByte p) 256 d l
-
-  row-low : (d : ℕ) → d < 256 → (b : Bool) → used p d ≡ b → (via row d ≡ deskRow p d) ⊎ ((rows ≤ via row d) × (rows ≤ deskRow p d))
-  unfolding rowByte deskRow
-  row-low d l true u = inl (row-at d l ∙ rw u)
-  row-low d l false u = let h = rows-few in inr (rw (row-at d l, u) (omega arith), rw u (omega (arith, s .count)))
-
-  row-high : (d : ℕ) → 256 ≤ d → (rows ≤ via row d) × (rows ≤ deskRow p d)
-  unfolding deskRow
-  row-high d l =
-      let h = rows-few in
-      let past : via row d ≡ d = via-past row d (omega (arith, ap length (s .named), table-length (rowByte p) 256)) in
-      let none : used p d ≡ false = no-bool (used p d) (λ u. let b = desk-rows p ok .used-by d u in let m = ok .low (b .0) (b .1) in absurd (omega (arith, b .2))) in
-      (rw past (omega arith), rw none (omega (arith, s .count)))
-
-  alike : Alike (plain p) lay (via row) (deskLayout p) (deskRow p)
-  unfolding layoutBy deskLayout
-  alike = record {
-    count = s .count;
-    homes = λ v l. home-at v (omega (arith, same-nodes p));
-    named = λ d. cases (decided (ltb d 256)) (λ h. row-low d (ltb-true d 256 h) (used p d) refl) (λ h. inr (row-high d (ltb-false d 256 h)));
-  }
-
-  laid-plain : (st : List ℕ) → length st ≡ rows * n → Laid (plain p) lay st
-  unfolding layoutBy
-  laid-plain st long = record {
-    plan = ok .accepted;
-    housed = λ v l. let m : v < nodes p = omega (arith, same-nodes p) in rw (home-at v m, s .count) (desk-rows p ok .within (deskOf p v) (desk-rows p ok .nodes-use v m));
-    few = rows-few;
-    long = long ∙ rw (e, same-nodes p);
-  }
-
-  pub prepared-laid : (st : List ℕ) → length st ≡ rows * n → Laid (take (2 * n) two) lay st
-  prepared-laid st long = subst (λ (q : List ℕ). Laid q lay st) (sym plan-is) (laid-plain st long)
-
-  fits-is : (st : List ℕ) → stateFits (plain p) (deskLayout p) st ≡ eqb (length st) (rows * n)
-  unfolding stateFits deskLayout
-  fits-is st = rw (same-nodes p, e, s .count)
-
-  pub repeat-ready : (st : List ℕ) → length st ≡ rows * n → (size (take (2 * n) two) ≤ 160) × (length st ≡ rows * size (take (2 * n) two))
-  repeat-ready st long = let h = nodes-few p ok in rw plan-size (omega (arith, e), long)
-
-  -- the table of rows has no more entries than there are bytes
-  pub row-short : length row ≤ 256
-  row-short = omega (arith, ap length (s .named), table-length (rowByte p) 256)
-
   -- the code's tests of the lengths, passed
   module _ (st : List ℕ) where
     pub undo-tested : (k len : ℕ) → not (eqb (length st) (rows * n) && leb k len) ≡ false → (length st ≡ rows * n) × (k ≤ len)
@@ -250,34 +177,34 @@ module _ (p : List ℕ) (rows : ℕ) (two home row : List ℕ) (s : Prepared p r
   pub simulate-wrong : (st : List ℕ) → (length st ≡ rows * n → ⊥) → (code node desk : ℕ) → deskSimulateOf p code node desk st ≡ simulated st (Refused (Invalid 7))
   unfolding stepOn atDesk
   simulate-wrong st w code node desk =
-      let f = seven (stateFits (plain p) (deskLayout p) st) (fits-is st ∙ ne-eqb (length st) (rows * n) w) in
+      let f = seven (stateFits (plain p) (deskLayout p) st) (fits-is s n e st ∙ ne-eqb (length st) (rows * n) w) in
       on-plain p ok code node desk st ∙ rw (unfit-refused (plain p) (deskLayout p) st (stepBy (deskRow p) code node desk) 7 (sym f) (λ z. absurd (omega arith)))
 
   pub keep-wrong : (st : List ℕ) (len k : ℕ) → (eqb (length st) (rows * n) && ltb k len) ≡ false → (code node desk : ℕ) (x : Entry) →
       DeskKeeps p st len k code node desk (Refused (Invalid 7)) len x st k
   unfolding keepOf keepFits atDesk
   keep-wrong st len k w code node desk x es long =
-      let f = seven (stateFits (plain p) (deskLayout p) st && ltb k (length es)) (rw (fits-is st, long) w) in
+      let f = seven (stateFits (plain p) (deskLayout p) st && ltb k (length es)) (rw (fits-is s n e st, long) w) in
       keep-plain p ok st es k code node desk ∙ rw (f, set-out es len x (omega arith))
 
   pub undo-wrong : (st : List ℕ) (len k : ℕ) → (eqb (length st) (rows * n) && leb k len) ≡ false → (x : Entry) → DeskUndoes p st len k x 7 st k
   unfolding undoOf undoNumber undoFits
   undo-wrong st len k w x es long last =
-      let f = seven (stateFits (plain p) (deskLayout p) st && leb k (length es)) (rw (fits-is st, long) w) in
+      let f = seven (stateFits (plain p) (deskLayout p) st && leb k (length es)) (rw (fits-is s n e st, long) w) in
       undo-plain p ok st es k ∙ rw f
 
   module _ (st : List ℕ) (es : List Entry) (k len : ℕ) (long : length es ≡ len) (names places : List ℕ) (b : Bool) (fine : b ≡ pointsFit names places k) where
     pub point-undo-wrong : (eqb (length st) (rows * n) && leb k len && b) ≡ false → deskPointUndoOf p st es k names places ≡ returned 7 st k (points names places)
     unfolding pointUndoOf pointUndoFits
     point-undo-wrong w =
-        let f = seven (stateFits (plain p) (deskLayout p) st && leb k (length es) && pointsFit names places k) (rw (fits-is st, long, ← fine) w) in
+        let f = seven (stateFits (plain p) (deskLayout p) st && leb k (length es) && pointsFit names places k) (rw (fits-is s n e st, long, ← fine) w) in
         point-undo-plain p ok st es k names places ∙ rw f
 
     pub point-back-wrong : (name : List ℕ) → (eqb (length name) 8 && eqb (length st) (rows * n) && leb k len && b) ≡ false →
         deskPointBackOf p name st es k names places ≡ returned 7 st k (points names places)
     unfolding pointBackOf backFits
     point-back-wrong name w =
-        let f = seven (eqb (length name) 8 && stateFits (plain p) (deskLayout p) st && leb k (length es) && pointsFit names places k) (rw (fits-is st, long, ← fine) w) in
+        let f = seven (eqb (length name) 8 && stateFits (plain p) (deskLayout p) st && leb k (length es) && pointsFit names places k) (rw (fits-is s n e st, long, ← fine) w) in
         point-back-plain p ok name st es k names places ∙ rw f
 
   module _ (tab : List ℕ) (right : tableNumber tab ≡ 0) (st m c : List ℕ) where
@@ -286,7 +213,7 @@ module _ (p : List ℕ) (rows : ℕ) (two home row : List ℕ) (s : Prepared p r
 
     record-fits : (b : Bool) → b ≡ (eqb (length st) (rows * n) && eqb (length m) n && eqb (length c) n) → recordNumber (plain p) (deskLayout p) st m c ≡ fitNumber (plain p) b
     unfolding recordNumber
-    record-fits b is = rw (fits-is st, same-nodes p, ← e, ← is)
+    record-fits b is = rw (fits-is s n e st, same-nodes p, ← e, ← is)
 
     pub record-wrong : (eqb (length st) (rows * n) && eqb (length m) n && eqb (length c) n) ≡ false → deskRecordByInto p tab st m c ≡ recorded 7 m c
     record-wrong w = record-at ∙ record-refused (plain p) (deskLayout p) st m c tab right 7 (sym (record-fits _ refl ∙ seven _ w)) (λ z. absurd (omega arith))
@@ -296,13 +223,13 @@ module _ (p : List ℕ) (rows : ℕ) (two home row : List ℕ) (s : Prepared p r
     desk-record-done t m′ c′ marks classes =
         let z : recordNumber (plain p) (deskLayout p) st m c ≡ 0 = record-fits _ refl ∙ fit-exact (plain p) _ .none .1 (ok .accepted, t) in
         record-at ∙ record-done (plain p) (deskLayout p) st m c z tab right m′ c′
-        (marks ∙ ap (λ (q : List ℕ). endMarks q lay st) plan-is ∙ marks-alike (plain p) lay (via row) (deskLayout p) (deskRow p) alike st)
-        (classes ∙ ap (λ (q : List ℕ). classesInto q tab m′ c) plan-is)
+        (marks ∙ ap (λ (q : List ℕ). endMarks q lay st) (plan-is s n e) ∙ marks-alike (plain p) lay (via row) (deskLayout p) (deskRow p) (alike s) st)
+        (classes ∙ ap (λ (q : List ℕ). classesInto q tab m′ c) (plan-is s n e))
 
   -- DONE on the tables. Of what is no event of the plan no answer names a desk, so any number does for it
   unknown-8 : (st : List ℕ) → length st ≡ rows * n → (code node desk : ℕ) → known (plain p) code node ≡ false → simulate (plain p) lay st (stepBy (via row) code node desk) ≡ simulated st (Refused (Invalid 8))
   unknown-8 st long code node desk u =
-      let l = laid-plain st long in
+      let l = laid-plain s n e st long in
       cases (decided (eqb desk 255))
       (λ h. simulate-event (plain p) lay (via row) code node desk st (eqb-true desk 255 h)
       ∙ happen-refused (plain p) lay st l code node 8 (sym (fault-unknown (plain p) true code node u)) (λ z. absurd (omega arith)))
@@ -320,8 +247,8 @@ module _ (p : List ℕ) (rows : ℕ) (two home row : List ℕ) (s : Prepared p r
         deskSimulateOf p code node desk st ≡ simulated st′ (atDesk d v)
     unfolding stepOn
     simulate-done st′ v h =
-        let done : simulate (plain p) lay st (stepBy (via row) code node desk) ≡ simulated st′ v = ap (λ (q : List ℕ). simulate q lay st (stepBy (via row) code node desk)) (sym plan-is) ∙ h in
-        let there = sym (step-alike (plain p) lay (via row) (deskLayout p) (deskRow p) alike st code node desk) ∙ done in
+        let done : simulate (plain p) lay st (stepBy (via row) code node desk) ≡ simulated st′ v = ap (λ (q : List ℕ). simulate q lay st (stepBy (via row) code node desk)) (sym (plan-is s n e)) ∙ h in
+        let there = sym (step-alike (plain p) lay (via row) (deskLayout p) (deskRow p) (alike s) st code node desk) ∙ done in
         on-plain p ok code node desk st ∙ ap (stepAtDesk (ownDesk p code node)) there ∙ named-own (simulated st′ v) done
 
     pub keep-done : (len k : ℕ) → k < len → (v : Verdict) (at : ℕ) (x : Entry) (st′ : List ℕ) (k′ : ℕ) → Keeps (take (2 * n) two) lay (via row) st len k code node desk v at x st′ k′ →
@@ -329,21 +256,21 @@ module _ (p : List ℕ) (rows : ℕ) (two home row : List ℕ) (s : Prepared p r
     unfolding stepOn
     keep-done len k room v at x st′ k′ h es l =
         let on : keepOf (plain p) lay (via row) st es k code node desk ≡ kept (simulated st′ v) (set es at x) k′ =
-        ap (λ (q : List ℕ). keepOf q lay (via row) st es k code node desk) (sym plan-is) ∙ h es l in
-        let there = sym (keep-alike (plain p) lay (via row) (deskLayout p) (deskRow p) alike st es k code node desk) ∙ on in
+        ap (λ (q : List ℕ). keepOf q lay (via row) st es k code node desk) (sym (plan-is s n e)) ∙ h es l in
+        let there = sym (keep-alike (plain p) lay (via row) (deskLayout p) (deskRow p) (alike s) st es k code node desk) ∙ on in
         let done : simulate (plain p) lay st (stepBy (via row) code node desk) ≡ simulated st′ v =
         sym (keep-room (plain p) lay (via row) st es k code node desk (rw l room)) ∙ ap (λ (a : Kept). a .step) on in
         keep-plain p ok st es k code node desk ∙ ap (keptAtDesk (ownDesk p code node)) there ∙ ap (λ (y : Simulated). kept y (set es at x) k′) (named-own (simulated st′ v) done)
 
   pub undo-done : (st : List ℕ) (len k : ℕ) (x : Entry) (r : ℕ) (st′ : List ℕ) (k′ : ℕ) → Undoes (take (2 * n) two) lay (via row) st len k x r st′ k′ → DeskUndoes p st len k x r st′ k′
   undo-done st len k x r st′ k′ h es l last =
-      undo-plain p ok st es k ∙ sym (undo-alike (plain p) lay (via row) (deskLayout p) (deskRow p) alike st es k) ∙ ap (λ (q : List ℕ). undoOf q lay (via row) st es k) (sym plan-is) ∙ h es l last
+      undo-plain p ok st es k ∙ sym (undo-alike (plain p) lay (via row) (deskLayout p) (deskRow p) (alike s) st es k) ∙ ap (λ (q : List ℕ). undoOf q lay (via row) st es k) (sym (plan-is s n e)) ∙ h es l last
 
   module _ (st : List ℕ) (es : List Entry) (k : ℕ) (names places : List ℕ) (x : Returned) where
     pub point-undo-done : pointUndoOf (take (2 * n) two) lay (via row) st es k names places ≡ x → deskPointUndoOf p st es k names places ≡ x
-    point-undo-done h = point-undo-plain p ok st es k names places ∙ (sym (point-undo-alike (plain p) lay (via row) (deskLayout p) (deskRow p) alike st es k names places)
-        ∙ ap (λ (q : List ℕ). pointUndoOf q lay (via row) st es k names places) (sym plan-is) ∙ h)
+    point-undo-done h = point-undo-plain p ok st es k names places ∙ (sym (point-undo-alike (plain p) lay (via row) (deskLayout p) (deskRow p) (alike s) st es k names places)
+        ∙ ap (λ (q : List ℕ). pointUndoOf q lay (via row) st es k names places) (sym (plan-is s n e)) ∙ h)
 
     pub point-back-done : (name : List ℕ) → pointBackOf (take (2 * n) two) lay (via row) name st es k names places ≡ x → deskPointBackOf p name st es k names places ≡ x
-    point-back-done name h = point-back-plain p ok name st es k names places ∙ (sym (point-back-alike (plain p) lay (via row) (deskLayout p) (deskRow p) alike name st es k names places)
-        ∙ ap (λ (q : List ℕ). pointBackOf q lay (via row) name st es k names places) (sym plan-is) ∙ h)
+    point-back-done name h = point-back-plain p ok name st es k names places ∙ (sym (point-back-alike (plain p) lay (via row) (deskLayout p) (deskRow p) (alike s) name st es k names places)
+        ∙ ap (λ (q : List ℕ). pointBackOf q lay (via row) name st es k names places) (sym (plan-is s n e)) ∙ h)

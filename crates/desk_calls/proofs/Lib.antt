@@ -1,5 +1,2 @@
--- Laws of the calls, in the order in which they build on one another.
-pub mod SplitLaws
-pub mod NumberLaws
-pub mod PrepareLaws
+-- Laws that the proofs here cite.
 pub mod CallLaws

@@ -1,2 +1,2 @@
--- Letters: as in desks; fs marks of desks, b a byte of them.
-pub mod Tables
+-- Letters: as in desks and keeping.
+pub mod Entries

@@ -1,11 +1,7 @@
-// The calls on plans with desks: each checks its plan, splits it into its plain plan and the two tables of its layout, and hands these to the functions
-// for any layout of rows. What the calls mean is the crate desks's. No public function has a `requires`.
+// The calls on plans with desks: each checks its plan, takes it apart into its plain plan and the two tables of its layout (the crate desk_layout), and
+// hands these to the functions for any layout of rows. What the calls mean is the crate desks's. No public function has a `requires`.
 ghost use mathlib.Core.Path.{_≡_};
-ghost use mathlib.Core.Bool.{true, _&&_, cond};
-ghost use Prim.Native.Nat.{ℕ, _+_, _*_, _-_, _≤_, _<_};
-ghost use lib.Dec.{eqb, leb};
-ghost use lib.ListN.{length, take, replicate};
-ghost use Rattle.lists.specs.Seq.{table};
+ghost use mathlib.Core.Bool.{true};
 ghost use Rattle.event.specs.Event.{known};
 ghost use Rattle.retention.specs.Record.{recorded};
 ghost use Rattle.site.specs.Step.{stepped};
@@ -13,165 +9,10 @@ ghost use Rattle.job.specs.Simulation.{simulated};
 ghost use Rattle.points.specs.Points.{points};
 ghost use Rattle.rewind.specs.Arrays.{entriesOf};
 ghost use Rattle.rewind.specs.Return.{returned};
-ghost use Rattle.desks.specs.Desk.{nodes, deskOf, plain, threes, desksLow, deskCheck, DeskAccepted, used};
+ghost use Rattle.desks.specs.Desk.{plain, DeskAccepted};
 ghost use Rattle.desks.specs.Calls.{ownDesk, atDesk, deskStepOf, deskSimulateOf, deskPointUndoOf, deskPointBackOf, deskRecordByInto, deskRecordInto};
-ghost use Rattle.desk_calls.specs.Tables.{markedBelow, numberedByte, markOf, rowByte, Prepared, DeskKeeps, DeskUndoes};
+ghost use Rattle.desk_calls.specs.Entries.{DeskKeeps, DeskUndoes};
 use journal::Entry;
-
-fn node_count(plan: &[u8]) -> usize
-    ensures { λ r. ⌜ r ≡ nodes (now (plan .entry)) ⌝ }
-{
-    plan.len() / 3
-}
-
-fn desk_at(plan: &[u8], v: usize) -> u8
-    requires { ⌜ v < nodes (now plan) ⌝ }
-    ensures { λ r. ⌜ r ≡ deskOf (now (plan .entry)) v ⌝ }
-{
-    plan[3 * v + 2]
-}
-
-fn length_ok(plan: &[u8]) -> bool
-    ensures { λ r. ⌜ r ≡ threes (now (plan .entry)) ⌝ }
-{
-    let n = plan.len();
-    if n % 3 != 0 {
-        return false;
-    }
-    0 < n && n <= 480
-}
-
-// The plain plan, in the front of `two`, and the desks in use marked by 0; answers a number that is above all of them. One loop for all of it: the marks
-// cost nothing beside the copy.
-fn split(plan: &[u8], two: &mut [u8], row: &mut [u8]) -> usize
-    requires { ⌜ (length (now two) ≡ 320) × (nodes (now plan) ≤ 160) × (now row ≡ replicate 256 255) ⌝ }
-    ensures { λ _. ⌜ take (2 * nodes (now (plan .entry))) (now (two .exit)) ≡ plain (now (plan .entry)) ⌝ }
-    ensures { λ _. ⌜ now (row .exit) ≡ table (markOf (now (plan .entry))) 256 ⌝ }
-    ensures { λ r. ⌜ (desksLow (now (plan .entry)) ≡ leb r 160) × ((d : ℕ) → used (now (plan .entry)) d ≡ true → d < r) ⌝ }
-{
-    let n = node_count(plan);
-    let mut top = 0;
-    let mut v = 0;
-    while v < n {
-        let kind = plan[3 * v];
-        let parent = plan[3 * v + 1];
-        two[2 * v] = kind;
-        two[2 * v + 1] = parent;
-        let d = plan::wide(desk_at(plan, v));
-        row[d] = 0;
-        if top <= d {
-            top = d + 1;
-        }
-        v += 1;
-    }
-    top
-}
-
-// The number of the check, and a number that is above all desks in use.
-struct Checked {
-    number: u8,
-    top: usize,
-}
-
-// The check; where its number is 0, the plain plan is in the front of `two`, and the desks in use are marked by 0.
-fn check_into(plan: &[u8], two: &mut [u8], row: &mut [u8]) -> Checked
-    requires { ⌜ (length (now two) ≡ 320) × (now row ≡ replicate 256 255) ⌝ }
-    ensures { λ r. ⌜ r .number ≡ deskCheck (now (plan .entry)) ⌝ }
-    ensures { λ r. ⌜ (r .number ≡ 0 → (take (2 * nodes (now (plan .entry))) (now (two .exit)) ≡ plain (now (plan .entry))) × (now (row .exit) ≡ table (markOf (now (plan .entry))) 256) × (r .top ≤ 160) × ((d : ℕ) → used (now (plan .entry)) d ≡ true → d < r .top)) ⌝ }
-{
-    if !length_ok(plan) {
-        return Checked { number: 1, top: 0 };
-    }
-    let top = split(plan, two, row);
-    let n = node_count(plan);
-    let number = checker::check(&two[..2 * n]);
-    if number != 0 {
-        return Checked { number, top };
-    }
-    Checked {
-        number: if top <= 160 { 0 } else { 22 },
-        top,
-    }
-}
-
-// The check of a plan with desks.
-pub fn check(plan: &[u8]) -> u8
-    ensures { λ r. ⌜ r ≡ deskCheck (now (plan .entry)) ⌝ }
-{
-    let mut two = [0u8; 320];
-    let mut row = [255u8; 256];
-    let found = check_into(plan, &mut two, &mut row);
-    found.number
-}
-
-// A marked desk's row, or the byte as it is.
-fn numbered(b: u8, row: u8) -> u8
-    ensures { λ r. ⌜ r ≡ cond (eqb b 0) row b ⌝ }
-{
-    if b == 0 { row } else { b }
-}
-
-// The next row behind a marked desk, or the same.
-fn next_row(b: u8, row: u8) -> u8
-    requires { ⌜ row < 255 ⌝ }
-    ensures { λ r. ⌜ r ≡ row + cond (eqb b 0) 1 0 ⌝ }
-{
-    if b == 0 { row + 1 } else { row }
-}
-
-// Numbers the marked desks below `top` in rising number; answers how many they are.
-fn number_rows(row: &mut [u8], top: usize) -> usize
-    requires { ⌜ (length (now row) ≡ 256) × (top ≤ 160) ⌝ }
-    ensures { λ r. ⌜ r ≡ markedBelow (now (row .entry)) top ⌝ }
-    ensures { λ _. ⌜ now (row .exit) ≡ table (numberedByte (now (row .entry)) top) 256 ⌝ }
-{
-    let mut count = 0;
-    let mut d = 0;
-    while d < top {
-        let b = row[d];
-        row[d] = numbered(b, count);
-        count = next_row(b, count);
-        d += 1;
-    }
-    plan::wide(count)
-}
-
-// Every node's row, in the front of `home`.
-fn write_homes(plan: &[u8], row: &[u8], home: &mut [u8])
-    requires { ⌜ DeskAccepted (now plan) × (now row ≡ table (rowByte (now plan)) 256) × (length (now home) ≡ 160) ⌝ }
-    ensures { λ _. ⌜ take (nodes (now (plan .entry))) (now (home .exit)) ≡ table (λ v. rowByte (now (plan .entry)) (deskOf (now (plan .entry)) v)) (nodes (now (plan .entry))) ⌝ }
-{
-    let n = node_count(plan);
-    let mut v = 0;
-    while v < n {
-        home[v] = row[plan::wide(desk_at(plan, v))];
-        v += 1;
-    }
-}
-
-// The number of the check, and the number of rows.
-struct Preparation {
-    number: u8,
-    rows: usize,
-}
-
-// Checks a plan and, where it is accepted, leaves its plain plan and the tables of its layout.
-fn prepare(plan: &[u8], two: &mut [u8], home: &mut [u8], row: &mut [u8]) -> Preparation
-    requires { ⌜ (length (now two) ≡ 320) × (length (now home) ≡ 160) × (now row ≡ replicate 256 255) ⌝ }
-    ensures { λ r. ⌜ r .number ≡ deskCheck (now (plan .entry)) ⌝ }
-    ensures { λ r. ⌜ (r .number ≡ 0 → Prepared (now (plan .entry)) (r .rows) (now (two .exit)) (now (home .exit)) (now (row .exit))) ⌝ }
-{
-    let found = check_into(plan, two, row);
-    if found.number != 0 {
-        return Preparation {
-            number: found.number,
-            rows: 0,
-        };
-    }
-    let rows = number_rows(row, found.top);
-    write_homes(plan, row, home);
-    Preparation { number: 0, rows }
-}
 
 // The desk that decides an event of the plan; of what is none, 0.
 fn own_desk(plan: &[u8], two: &[u8], code: u32, node: u32) -> u8
@@ -212,11 +53,11 @@ pub fn step(plan: &[u8], code: u32, node: u32, row: &mut [u8]) -> site::Verdict
 {
     let mut two = [0u8; 320];
     let mut marks = [255u8; 256];
-    let found = check_into(plan, &mut two, &mut marks);
+    let found = desk_layout::check_into(plan, &mut two, &mut marks);
     if found.number != 0 {
         return site::Verdict::Refused(site::Refusal::Invalid(found.number));
     }
-    let n = node_count(plan);
+    let n = desk_layout::node_count(plan);
     if row.len() != n {
         return site::Verdict::Refused(site::Refusal::Invalid(7));
     }
@@ -235,11 +76,11 @@ pub fn simulate(plan: &[u8], code: u32, node: u32, desk: u32, state: &mut [u8]) 
     let mut two = [0u8; 320];
     let mut home = [0u8; 160];
     let mut row = [255u8; 256];
-    let at = prepare(plan, &mut two, &mut home, &mut row);
+    let at = desk_layout::prepare(plan, &mut two, &mut home, &mut row);
     if at.number != 0 {
         return site::Verdict::Refused(site::Refusal::Invalid(at.number));
     }
-    let n = node_count(plan);
+    let n = desk_layout::node_count(plan);
     if state.len() != at.rows * n {
         return site::Verdict::Refused(site::Refusal::Invalid(7));
     }
@@ -263,7 +104,7 @@ pub fn keep(
     let mut two = [0u8; 320];
     let mut home = [0u8; 160];
     let mut row = [255u8; 256];
-    let at = prepare(plan, &mut two, &mut home, &mut row);
+    let at = desk_layout::prepare(plan, &mut two, &mut home, &mut row);
     if at.number != 0 {
         return keeping::Kept {
             verdict: site::Verdict::Refused(site::Refusal::Invalid(at.number)),
@@ -271,7 +112,7 @@ pub fn keep(
             entry: keeping::no_entry(),
         };
     }
-    let n = node_count(plan);
+    let n = desk_layout::node_count(plan);
     if !((state.len() == at.rows * n) & (*count < len)) {
         return keeping::Kept {
             verdict: site::Verdict::Refused(site::Refusal::Invalid(7)),
@@ -292,11 +133,11 @@ pub fn undo(plan: &[u8], state: &mut [u8], len: usize, count: &mut usize, e: Ent
     let mut two = [0u8; 320];
     let mut home = [0u8; 160];
     let mut row = [255u8; 256];
-    let at = prepare(plan, &mut two, &mut home, &mut row);
+    let at = desk_layout::prepare(plan, &mut two, &mut home, &mut row);
     if at.number != 0 {
         return at.number;
     }
-    let n = node_count(plan);
+    let n = desk_layout::node_count(plan);
     if !((state.len() == at.rows * n) & (*count <= len)) {
         return 7;
     }
@@ -327,11 +168,11 @@ pub fn point_undo(
     let mut two = [0u8; 320];
     let mut home = [0u8; 160];
     let mut row = [255u8; 256];
-    let at = prepare(plan, &mut two, &mut home, &mut row);
+    let at = desk_layout::prepare(plan, &mut two, &mut home, &mut row);
     if at.number != 0 {
         return at.number;
     }
-    let n = node_count(plan);
+    let n = desk_layout::node_count(plan);
     let long = (state.len() == at.rows * n) & (*count <= entries.len());
     let right = points::points_fit(names, places, *count);
     if !(long & right) {
@@ -365,11 +206,11 @@ pub fn point_back(
     let mut two = [0u8; 320];
     let mut home = [0u8; 160];
     let mut row = [255u8; 256];
-    let at = prepare(plan, &mut two, &mut home, &mut row);
+    let at = desk_layout::prepare(plan, &mut two, &mut home, &mut row);
     if at.number != 0 {
         return at.number;
     }
-    let n = node_count(plan);
+    let n = desk_layout::node_count(plan);
     let long = (name.len() == 8) & (state.len() == at.rows * n) & (*count <= entries.len());
     let right = points::points_fit(names, places, *count);
     if !(long & right) {
@@ -400,11 +241,11 @@ pub fn record_by(plan: &[u8], tab: &[u8], state: &[u8], marks: &mut [u8], classe
     let mut two = [0u8; 320];
     let mut home = [0u8; 160];
     let mut row = [255u8; 256];
-    let at = prepare(plan, &mut two, &mut home, &mut row);
+    let at = desk_layout::prepare(plan, &mut two, &mut home, &mut row);
     if at.number != 0 {
         return at.number;
     }
-    let n = node_count(plan);
+    let n = desk_layout::node_count(plan);
     if !((state.len() == at.rows * n) & (marks.len() == n) & (classes.len() == n)) {
         return 7;
     }

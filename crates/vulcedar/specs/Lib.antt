@@ -1,2 +1,2 @@
--- Letters: n a number, q a site, v a value.
-pub mod Result
+-- No letters of its own.
+pub mod Version

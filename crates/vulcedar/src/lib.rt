@@ -1,8 +1,8 @@
 // The C interface (include/vulcedar.h): exported functions, nothing else. Numbers are 32 bits wide and are not cut, a slice is a pointer and
-// a length, and every length is tested inside. What a result holds is specs/Result.antt.
+// a length, and every length is tested inside. What a result holds is the crate results's.
 ghost use mathlib.Core.Path.{_≡_};
 ghost use mathlib.Core.List.{List};
-ghost use Prim.Native.Nat.{_+_, _-_, _*_};
+ghost use Prim.Native.Nat.{_-_};
 ghost use lib.ListN.{length, getD, set};
 ghost use Rattle.journal.specs.Journal.{noEntry};
 ghost use Rattle.plan.specs.Check.{checkNumber};
@@ -13,7 +13,6 @@ ghost use Rattle.template.specs.Call.{repeatOf};
 ghost use Rattle.checker.specs.Depths.{depthsOf};
 ghost use Rattle.guard.specs.Rule.{ruleAnswer};
 ghost use Rattle.writer.specs.Written.{writeOf};
-ghost use Rattle.site.specs.declared.Verdict.the-variants.{Refused};
 ghost use Rattle.site.specs.Step.{stepOf, hearOf};
 ghost use Rattle.central.specs.Rule.{ruleOf};
 ghost use Rattle.pass.specs.Pass.{passInto};
@@ -29,38 +28,9 @@ ghost use Rattle.rewind.specs.Arrays.{entriesOf};
 ghost use Rattle.rewind.specs.Return.{pointUndoOwn, pointBackOwn};
 ghost use Rattle.desks.specs.Desk.{deskCheck};
 ghost use Rattle.desks.specs.Calls.{deskStepOf, deskSimulateOf, deskKeepOf, deskUndoOf, deskPointUndoOf, deskPointBackOf, deskRecordInto, deskRecordByInto};
-ghost use Rattle.vulcedar.specs.Result.{version, result, ofMade, ofWritten, ofFoundRule, ofVerdict, ofRuling, ofText, AsKept, AsUndone, AsNamed, AsReturned};
+ghost use Rattle.results.specs.Result.{result, ofMade, ofWritten, ofFoundRule, ofVerdict, ofRuling, ofText, AsKept, AsUndone, AsNamed, AsReturned};
+ghost use Rattle.vulcedar.specs.Version.{version};
 use journal::Entry;
-
-fn packed(number: u8, site: u8) -> u32
-    ensures { λ r. ⌜ r ≡ result number site 0 ⌝ }
-{
-    plan::wide32(number) + 256 * plan::wide32(site)
-}
-
-fn with_value(number: u8, site: u8, value: u8) -> u32
-    ensures { λ r. ⌜ r ≡ result number site value ⌝ }
-{
-    packed(number, site) + 65536 * plan::wide32(value)
-}
-
-fn of_refusal(why: site::Refusal) -> u32
-    ensures { λ r. ⌜ r ≡ ofVerdict (Refused why) ⌝ }
-{
-    match why {
-        site::Refusal::Invalid(n) => packed(n, 0),
-        site::Refusal::Barred(q) => packed(10, q),
-        site::Refusal::Unmet(q) => packed(11, q),
-        site::Refusal::Untrue => 12,
-    }
-}
-
-fn of_verdict(v: site::Verdict) -> u32
-    ensures { λ r. ⌜ r ≡ ofVerdict v ⌝ }
-{
-    let r = site::report_of(v);
-    with_value(r.number, r.site, r.rule)
-}
 
 #[no_mangle]
 pub extern "C" fn vulcedar_version() -> u32
@@ -73,7 +43,7 @@ pub extern "C" fn vulcedar_version() -> u32
 pub extern "C" fn vulcedar_check(plan: &[u8]) -> u32
     ensures { λ r. ⌜ r ≡ result (checkNumber (now (plan .entry))) 0 0 ⌝ }
 {
-    packed(checker::check(plan), 0)
+    results::packed(checker::check(plan), 0)
 }
 
 #[no_mangle]
@@ -81,7 +51,7 @@ pub extern "C" fn vulcedar_rewrite(plan: &[u8], out: &mut [u8]) -> u32
     ensures { λ r. ⌜ r ≡ result (rewriteOf (now (plan .entry)) (now (out .entry)) .number) 0 0 ⌝ }
     ensures { λ r. ⌜ now (out .exit) ≡ rewriteOf (now (plan .entry)) (now (out .entry)) .out ⌝ }
 {
-    packed(rewrite::rewrite(plan, out), 0)
+    results::packed(rewrite::rewrite(plan, out), 0)
 }
 
 #[no_mangle]
@@ -89,7 +59,7 @@ pub extern "C" fn vulcedar_renumber(plan: &[u8], out: &mut [u8]) -> u32
     ensures { λ r. ⌜ r ≡ result (renumberOf (now (plan .entry)) (now (out .entry)) .number) 0 0 ⌝ }
     ensures { λ r. ⌜ now (out .exit) ≡ renumberOf (now (plan .entry)) (now (out .entry)) .out ⌝ }
 {
-    packed(convert::renumber(plan, out), 0)
+    results::packed(convert::renumber(plan, out), 0)
 }
 
 #[no_mangle]
@@ -97,7 +67,7 @@ pub extern "C" fn vulcedar_to_depths(plan: &[u8], out: &mut [u8]) -> u32
     ensures { λ r. ⌜ r ≡ result (toDepthsOf (now (plan .entry)) (now (out .entry)) .number) 0 0 ⌝ }
     ensures { λ r. ⌜ now (out .exit) ≡ toDepthsOf (now (plan .entry)) (now (out .entry)) .out ⌝ }
 {
-    packed(convert::to_depths(plan, out), 0)
+    results::packed(convert::to_depths(plan, out), 0)
 }
 
 #[no_mangle]
@@ -105,7 +75,7 @@ pub extern "C" fn vulcedar_from_depths(depths: &[u8], out: &mut [u8]) -> u32
     ensures { λ r. ⌜ r ≡ result (fromDepthsOf (now (depths .entry)) (now (out .entry)) .number) 0 0 ⌝ }
     ensures { λ r. ⌜ now (out .exit) ≡ fromDepthsOf (now (depths .entry)) (now (out .entry)) .out ⌝ }
 {
-    packed(convert::from_depths(depths, out), 0)
+    results::packed(convert::from_depths(depths, out), 0)
 }
 
 #[no_mangle]
@@ -114,7 +84,7 @@ pub extern "C" fn vulcedar_repeat(plan: &[u8], node: u32, count: u32, out: &mut 
     ensures { λ r. ⌜ now (out .exit) ≡ repeatOf (now (plan .entry)) node count (now (out .entry)) .out ⌝ }
 {
     let r = repeat::repeat(plan, node, count, out);
-    with_value(r.number, 0, r.nodes)
+    results::with_value(r.number, 0, r.nodes)
 }
 
 #[no_mangle]
@@ -122,7 +92,7 @@ pub extern "C" fn vulcedar_check_depths(plan: &[u8], depths: &mut [u8]) -> u32
     ensures { λ r. ⌜ r ≡ result (depthsOf (now (plan .entry)) (now (depths .entry)) .number) 0 0 ⌝ }
     ensures { λ r. ⌜ now (depths .exit) ≡ depthsOf (now (plan .entry)) (now (depths .entry)) .depths ⌝ }
 {
-    packed(checker::check_depths(plan, depths), 0)
+    results::packed(checker::check_depths(plan, depths), 0)
 }
 
 #[no_mangle]
@@ -132,8 +102,8 @@ pub extern "C" fn vulcedar_guard(plan: &[u8], code: u32, node: u32, buf: &mut [u
 {
     let w = writer::write_guard(plan, code, node, buf);
     match w {
-        writer::Written::Done(g) => packed(0, g.rule) + 65536 * (g.length as u32),
-        writer::Written::Refused(n) => packed(n, 0),
+        writer::Written::Done(g) => results::packed(0, g.rule) + 65536 * (g.length as u32),
+        writer::Written::Refused(n) => results::packed(n, 0),
     }
 }
 
@@ -142,7 +112,7 @@ pub extern "C" fn vulcedar_rule(plan: &[u8], code: u32, node: u32) -> u32
     ensures { λ r. ⌜ r ≡ ofFoundRule (ruleAnswer (now (plan .entry)) code node) ⌝ }
 {
     let r = guard::rule(plan, code, node);
-    with_value(r.number, 0, r.rule)
+    results::with_value(r.number, 0, r.rule)
 }
 
 #[no_mangle]
@@ -152,9 +122,9 @@ pub extern "C" fn vulcedar_step(plan: &[u8], code: u32, node: u32, row: &mut [u8
 {
     // read where it stands: a verdict that is handed on costs a step more
     match site::step(plan, code, node, row) {
-        site::Verdict::Passed(e) => with_value(0, e.site, e.rule),
+        site::Verdict::Passed(e) => results::with_value(0, e.site, e.rule),
         site::Verdict::Heard => 0,
-        site::Verdict::Refused(why) => of_refusal(why),
+        site::Verdict::Refused(why) => results::of_refusal(why),
     }
 }
 
@@ -163,7 +133,7 @@ pub extern "C" fn vulcedar_hear(plan: &[u8], code: u32, node: u32, row: &mut [u8
     ensures { λ r. ⌜ r ≡ ofVerdict (hearOf (now (plan .entry)) code node (now (row .entry)) .verdict) ⌝ }
     ensures { λ r. ⌜ now (row .exit) ≡ hearOf (now (plan .entry)) code node (now (row .entry)) .row ⌝ }
 {
-    of_verdict(site::hear(plan, code, node, row))
+    results::of_verdict(site::hear(plan, code, node, row))
 }
 
 #[no_mangle]
@@ -171,7 +141,7 @@ pub extern "C" fn vulcedar_pass(plan: &[u8], answers: &[u8], marks: &mut [u8]) -
     ensures { λ r. ⌜ r ≡ result (passInto (now (plan .entry)) (now (answers .entry)) (now (marks .entry)) .number) 0 0 ⌝ }
     ensures { λ r. ⌜ now (marks .exit) ≡ passInto (now (plan .entry)) (now (answers .entry)) (now (marks .entry)) .marks ⌝ }
 {
-    packed(pass::pass(plan, answers, marks), 0)
+    results::packed(pass::pass(plan, answers, marks), 0)
 }
 
 #[no_mangle]
@@ -185,7 +155,7 @@ pub extern "C" fn vulcedar_impact(
     ensures { λ r. ⌜ r ≡ result (impactInto (now (plan .entry)) (now (answers .entry)) (now (marks .entry)) task answer .number) 0 0 ⌝ }
     ensures { λ r. ⌜ now (marks .exit) ≡ impactInto (now (plan .entry)) (now (answers .entry)) (now (marks .entry)) task answer .marks ⌝ }
 {
-    packed(impact::impact(plan, answers, marks, task, answer), 0)
+    results::packed(impact::impact(plan, answers, marks, task, answer), 0)
 }
 
 #[no_mangle]
@@ -199,7 +169,7 @@ pub extern "C" fn vulcedar_way(
     ensures { λ r. ⌜ r ≡ result (wayInto (now (plan .entry)) node mark end (now (answers .entry)) .number) 0 0 ⌝ }
     ensures { λ r. ⌜ now (answers .exit) ≡ wayInto (now (plan .entry)) node mark end (now (answers .entry)) .answers ⌝ }
 {
-    packed(find_way::find_way(plan, node, mark, end, answers), 0)
+    results::packed(find_way::find_way(plan, node, mark, end, answers), 0)
 }
 
 #[no_mangle]
@@ -213,7 +183,7 @@ pub extern "C" fn vulcedar_simulate(
     ensures { λ r. ⌜ r ≡ ofVerdict (simulateOf (now (plan .entry)) code node site (now (state .entry)) .verdict) ⌝ }
     ensures { λ r. ⌜ now (state .exit) ≡ simulateOf (now (plan .entry)) code node site (now (state .entry)) .state ⌝ }
 {
-    of_verdict(simulation::simulate(plan, code, node, site, state))
+    results::of_verdict(simulation::simulate(plan, code, node, site, state))
 }
 
 // The result of a kept step, and where its entry goes: past the end of the entries where it was refused.
@@ -238,7 +208,7 @@ fn keep_result(
     let verdict = a.verdict;
     let entry = a.entry;
     KeptResult {
-        result: of_verdict(verdict),
+        result: results::of_verdict(verdict),
         at: a.at,
         entry,
     }
@@ -265,7 +235,7 @@ pub extern "C" fn vulcedar_keep(
 fn undo_result(plan: &[u8], state: &mut [u8], len: usize, count: &mut usize, e: Entry) -> u32
     ensures { λ r. ⌜ ((es : List Entry) → length es ≡ len → getD es (now (count .entry) - 1) noEntry ≡ e → AsUndone (undoOwn (now (plan .entry)) (now (state .entry)) es (now (count .entry))) r (now (state .exit)) (now (count .exit))) ⌝ }
 {
-    packed(keeping::undo(plan, state, len, count, e), 0)
+    results::packed(keeping::undo(plan, state, len, count, e), 0)
 }
 
 // The place of the last of so many.
@@ -298,7 +268,7 @@ pub extern "C" fn vulcedar_point_name(
 ) -> u32
     ensures { λ r. ⌜ AsNamed (nameOf (now (name .entry)) count (now (names .entry)) (now (places .entry))) r (now (names .exit)) (now (places .exit)) ⌝ }
 {
-    packed(points::name_point(name, count, names, places), 0)
+    results::packed(points::name_point(name, count, names, places), 0)
 }
 
 #[no_mangle]
@@ -313,7 +283,7 @@ pub extern "C" fn vulcedar_point_undo(
     ensures { λ r. ⌜ AsReturned (pointUndoOwn (now (plan .entry)) (now (state .entry)) (entriesOf (now (entries .entry))) (now (count .entry)) (now (names .entry)) (now (places .entry))) r (now (state .exit)) (now (count .exit)) (now (names .exit)) (now (places .exit)) ⌝ }
 {
     let undone = rewind::point_undo(plan, state, entries, count, names, places);
-    packed(undone, 0)
+    results::packed(undone, 0)
 }
 
 #[no_mangle]
@@ -329,7 +299,7 @@ pub extern "C" fn vulcedar_point_back(
     ensures { λ r. ⌜ AsReturned (pointBackOwn (now (plan .entry)) (now (name .entry)) (now (state .entry)) (entriesOf (now (entries .entry))) (now (count .entry)) (now (names .entry)) (now (places .entry))) r (now (state .exit)) (now (count .exit)) (now (names .exit)) (now (places .exit)) ⌝ }
 {
     let gone = rewind::point_back(plan, name, state, entries, count, names, places);
-    packed(gone, 0)
+    results::packed(gone, 0)
 }
 
 #[no_mangle]
@@ -343,7 +313,7 @@ pub extern "C" fn vulcedar_record(
     ensures { λ r. ⌜ now (marks .exit) ≡ recordInto (now (plan .entry)) (now (state .entry)) (now (marks .entry)) (now (classes .entry)) .marks ⌝ }
     ensures { λ r. ⌜ now (classes .exit) ≡ recordInto (now (plan .entry)) (now (state .entry)) (now (marks .entry)) (now (classes .entry)) .classes ⌝ }
 {
-    packed(simulation::record(plan, state, marks, classes), 0)
+    results::packed(simulation::record(plan, state, marks, classes), 0)
 }
 
 #[no_mangle]
@@ -362,7 +332,7 @@ pub extern "C" fn vulcedar_central(
     match r {
         central::Ruling::Allowed => 65536,
         central::Ruling::Forbidden => 0,
-        central::Ruling::Refused(n) => packed(n, 0),
+        central::Ruling::Refused(n) => results::packed(n, 0),
     }
 }
 
@@ -378,14 +348,14 @@ pub extern "C" fn vulcedar_record_by(
     ensures { λ r. ⌜ now (marks .exit) ≡ recordByInto (now (plan .entry)) (now (tab .entry)) (now (state .entry)) (now (marks .entry)) (now (classes .entry)) .marks ⌝ }
     ensures { λ r. ⌜ now (classes .exit) ≡ recordByInto (now (plan .entry)) (now (tab .entry)) (now (state .entry)) (now (marks .entry)) (now (classes .entry)) .classes ⌝ }
 {
-    packed(simulation::record_by(plan, tab, state, marks, classes), 0)
+    results::packed(simulation::record_by(plan, tab, state, marks, classes), 0)
 }
 
 #[no_mangle]
 pub extern "C" fn vulcedar_check_table(table: &[u8]) -> u32
     ensures { λ r. ⌜ r ≡ result (tableNumber (now (table .entry))) 0 0 ⌝ }
 {
-    packed(retention::check_table(table), 0)
+    results::packed(retention::check_table(table), 0)
 }
 
 #[no_mangle]
@@ -401,7 +371,7 @@ pub extern "C" fn vulcedar_pass_record(
     ensures { λ r. ⌜ now (classes .exit) ≡ passRecordInto (now (plan .entry)) (now (table .entry)) (now (answers .entry)) (now (marks .entry)) (now (classes .entry)) .classes ⌝ }
 {
     let number = pass_record::pass_record(plan, table, answers, marks, classes);
-    packed(number, 0)
+    results::packed(number, 0)
 }
 
 #[no_mangle]
@@ -410,14 +380,14 @@ pub extern "C" fn vulcedar_rehearse(text: &[u8], out: &mut [u8]) -> u32
     ensures { λ r. ⌜ now (out .exit) ≡ runTextInto (now (text .entry)) (now (out .entry)) .out ⌝ }
 {
     let r = script::run_text(text, out);
-    packed(r.number, 0) + 65536 * (r.length as u32)
+    results::packed(r.number, 0) + 65536 * (r.length as u32)
 }
 
 #[no_mangle]
 pub extern "C" fn vulcedar_desk_check(plan: &[u8]) -> u32
     ensures { λ r. ⌜ r ≡ result (deskCheck (now (plan .entry))) 0 0 ⌝ }
 {
-    packed(desk_calls::check(plan), 0)
+    results::packed(desk_layout::check(plan), 0)
 }
 
 #[no_mangle]
@@ -425,7 +395,7 @@ pub extern "C" fn vulcedar_desk_step(plan: &[u8], code: u32, node: u32, row: &mu
     ensures { λ r. ⌜ r ≡ ofVerdict (deskStepOf (now (plan .entry)) code node (now (row .entry)) .verdict) ⌝ }
     ensures { λ r. ⌜ now (row .exit) ≡ deskStepOf (now (plan .entry)) code node (now (row .entry)) .row ⌝ }
 {
-    of_verdict(desk_calls::step(plan, code, node, row))
+    results::of_verdict(desk_calls::step(plan, code, node, row))
 }
 
 #[no_mangle]
@@ -439,7 +409,7 @@ pub extern "C" fn vulcedar_desk_simulate(
     ensures { λ r. ⌜ r ≡ ofVerdict (deskSimulateOf (now (plan .entry)) code node desk (now (state .entry)) .verdict) ⌝ }
     ensures { λ r. ⌜ now (state .exit) ≡ deskSimulateOf (now (plan .entry)) code node desk (now (state .entry)) .state ⌝ }
 {
-    of_verdict(desk_calls::simulate(plan, code, node, desk, state))
+    results::of_verdict(desk_calls::simulate(plan, code, node, desk, state))
 }
 
 fn desk_keep_result(
@@ -457,7 +427,7 @@ fn desk_keep_result(
     let verdict = kept.verdict;
     let entry = kept.entry;
     KeptResult {
-        result: of_verdict(verdict),
+        result: results::of_verdict(verdict),
         at: kept.at,
         entry,
     }
@@ -484,7 +454,7 @@ pub extern "C" fn vulcedar_desk_keep(
 fn desk_undo_result(plan: &[u8], state: &mut [u8], len: usize, count: &mut usize, e: Entry) -> u32
     ensures { λ r. ⌜ ((es : List Entry) → length es ≡ len → getD es (now (count .entry) - 1) noEntry ≡ e → AsUndone (deskUndoOf (now (plan .entry)) (now (state .entry)) es (now (count .entry))) r (now (state .exit)) (now (count .exit))) ⌝ }
 {
-    packed(desk_calls::undo(plan, state, len, count, e), 0)
+    results::packed(desk_calls::undo(plan, state, len, count, e), 0)
 }
 
 #[no_mangle]
@@ -513,7 +483,7 @@ pub extern "C" fn vulcedar_desk_point_undo(
     ensures { λ r. ⌜ AsReturned (deskPointUndoOf (now (plan .entry)) (now (state .entry)) (entriesOf (now (entries .entry))) (now (count .entry)) (now (names .entry)) (now (places .entry))) r (now (state .exit)) (now (count .exit)) (now (names .exit)) (now (places .exit)) ⌝ }
 {
     let taken = desk_calls::point_undo(plan, state, entries, count, names, places);
-    packed(taken, 0)
+    results::packed(taken, 0)
 }
 
 #[no_mangle]
@@ -529,7 +499,7 @@ pub extern "C" fn vulcedar_desk_point_back(
     ensures { λ r. ⌜ AsReturned (deskPointBackOf (now (plan .entry)) (now (name .entry)) (now (state .entry)) (entriesOf (now (entries .entry))) (now (count .entry)) (now (names .entry)) (now (places .entry))) r (now (state .exit)) (now (count .exit)) (now (names .exit)) (now (places .exit)) ⌝ }
 {
     let back = desk_calls::point_back(plan, name, state, entries, count, names, places);
-    packed(back, 0)
+    results::packed(back, 0)
 }
 
 #[no_mangle]
@@ -543,7 +513,7 @@ pub extern "C" fn vulcedar_desk_record(
     ensures { λ r. ⌜ now (marks .exit) ≡ deskRecordInto (now (plan .entry)) (now (state .entry)) (now (marks .entry)) (now (classes .entry)) .marks ⌝ }
     ensures { λ r. ⌜ now (classes .exit) ≡ deskRecordInto (now (plan .entry)) (now (state .entry)) (now (marks .entry)) (now (classes .entry)) .classes ⌝ }
 {
-    packed(desk_calls::record(plan, state, marks, classes), 0)
+    results::packed(desk_calls::record(plan, state, marks, classes), 0)
 }
 
 #[no_mangle]
@@ -558,5 +528,5 @@ pub extern "C" fn vulcedar_desk_record_by(
     ensures { λ r. ⌜ now (marks .exit) ≡ deskRecordByInto (now (plan .entry)) (now (tab .entry)) (now (state .entry)) (now (marks .entry)) (now (classes .entry)) .marks ⌝ }
     ensures { λ r. ⌜ now (classes .exit) ≡ deskRecordByInto (now (plan .entry)) (now (tab .entry)) (now (state .entry)) (now (marks .entry)) (now (classes .entry)) .classes ⌝ }
 {
-    packed(desk_calls::record_by(plan, tab, state, marks, classes), 0)
+    results::packed(desk_calls::record_by(plan, tab, state, marks, classes), 0)
 }

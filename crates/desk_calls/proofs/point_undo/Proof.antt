@@ -4,8 +4,9 @@ use native.Mathlib.Omega.{arith}
 use lib.ListN.{length}
 use borrow.Author.Tests.{not-true}
 use Rattle.rewind.proofs.ArrayLaws.{array-length}
-use Rattle.desk_calls.proofs.PrepareLaws.{nodes-few, front-length, front-room}
-use Rattle.desk_calls.proofs.CallLaws.{point-undo-refused, length-few, point-undo-wrong, points-tested, prepared-laid, point-undo-done}
+use Rattle.desk_layout.proofs.PrepareLaws.{nodes-few, front-length, front-room}
+use Rattle.desk_layout.proofs.LayoutLaws.{length-few, prepared-laid}
+use Rattle.desk_calls.proofs.CallLaws.{point-undo-refused, point-undo-wrong, points-tested, point-undo-done}
 use borrow.Author.Needs.{needs}
 use Rattle.desk_calls.proofs.point_undo.Statement.{statement}
 use Rattle.desk_calls.proofs.point_undo.Tie as tie
@@ -29,7 +30,7 @@ node-count-requires : tie.Need-node-count-requires
 node-count-requires c κs = search needs
 
 mul-long : tie.Need-mul-long
-mul-long c = omega (arith, length-few _ _ _ _ _ (c .before .before .before .before .before .before .before .prepare .ensures .1 (c .before .before .if1 .left)) _ (c .before .node-count .ensures))
+mul-long c = omega (arith, length-few (c .before .before .before .before .before .before .before .prepare .ensures .1 (c .before .before .if1 .left)) _ (c .before .node-count .ensures))
 
 points-fit-requires : tie.Need-points-fit-requires
 points-fit-requires c κs = search needs
@@ -59,7 +60,7 @@ slice-aggregate-point-undo-on-3 : tie.Need-slice-aggregate-point-undo-on-3
 slice-aggregate-point-undo-on-3 c = search needs
 
 point-undo-on-requires : tie.Need-point-undo-on-requires
-point-undo-on-requires c κs = let t = points-tested _ _ _ _ _ (c .before .before .before .before .before .before .before .before .before .before .before .before .before .before .before .before .before .before .before .prepare .ensures .1 (c .before .before .before .before .before .before .before .before .before .before .before .before .before .before .if1 .left)) _ (c .before .before .before .before .before .before .before .before .before .before .before .before .before .node-count .ensures) (c .before .before .before .before .before .before .before .before .before .before .before .before .before .before .before .before .before .before .before .before .before .before .before .before .before .before .before .args .state .now) (c .before .before .before .before .before .before .before .before .before .before .before .before .before .before .before .before .before .before .before .before .before .before .before .before .before .before .before .args .count .now) (length (c .before .before .before .before .before .before .before .before .before .before .before .before .before .before .before .before .before .before .before .before .before .before .before .before .before .before .before .args .entries .now)) _ (c .before .before .before .before .before .before .before .if2 .left) in (prepared-laid _ _ _ _ _ (c .before .before .before .before .before .before .before .before .before .before .before .before .before .before .before .before .before .before .before .prepare .ensures .1 (c .before .before .before .before .before .before .before .before .before .before .before .before .before .before .if1 .left)) _ (c .before .before .before .before .before .before .before .before .before .before .before .before .before .node-count .ensures) _ (t .0), (t .1, sym (c .before .before .before .before .before .before .before .before .points-fit .ensures) ∙ t .2))
+point-undo-on-requires c κs = let t = points-tested _ _ _ _ _ (c .before .before .before .before .before .before .before .before .before .before .before .before .before .before .before .before .before .before .before .prepare .ensures .1 (c .before .before .before .before .before .before .before .before .before .before .before .before .before .before .if1 .left)) _ (c .before .before .before .before .before .before .before .before .before .before .before .before .before .node-count .ensures) (c .before .before .before .before .before .before .before .before .before .before .before .before .before .before .before .before .before .before .before .before .before .before .before .before .before .before .before .args .state .now) (c .before .before .before .before .before .before .before .before .before .before .before .before .before .before .before .before .before .before .before .before .before .before .before .before .before .before .before .args .count .now) (length (c .before .before .before .before .before .before .before .before .before .before .before .before .before .before .before .before .before .before .before .before .before .before .before .before .before .before .before .args .entries .now)) _ (c .before .before .before .before .before .before .before .if2 .left) in (prepared-laid (c .before .before .before .before .before .before .before .before .before .before .before .before .before .before .before .before .before .before .before .prepare .ensures .1 (c .before .before .before .before .before .before .before .before .before .before .before .before .before .before .if1 .left)) _ (c .before .before .before .before .before .before .before .before .before .before .before .before .before .node-count .ensures) _ (t .0), (t .1, sym (c .before .before .before .before .before .before .before .before .points-fit .ensures) ∙ t .2))
 
 same-length-3 : tie.Need-same-length-3
 same-length-3 c = search needs

@@ -2,8 +2,9 @@
 use mathlib.Core.Path.{sym, _∙_}
 use native.Mathlib.Omega.{arith}
 use borrow.Author.Tests.{not-true, not-false}
-use Rattle.desk_calls.proofs.PrepareLaws.{nodes-few, front-length, front-room}
-use Rattle.desk_calls.proofs.CallLaws.{table-first, desk-record-refused, length-few, record-wrong, marks-tested, prepared-laid, plan-size, desk-record-done}
+use Rattle.desk_layout.proofs.PrepareLaws.{nodes-few, front-length, front-room}
+use Rattle.desk_layout.proofs.LayoutLaws.{length-few, prepared-laid, plan-size}
+use Rattle.desk_calls.proofs.CallLaws.{table-first, desk-record-refused, record-wrong, marks-tested, desk-record-done}
 use borrow.Author.Needs.{needs}
 use Rattle.desk_calls.proofs.record_by.Statement.{statement}
 use Rattle.desk_calls.proofs.record_by.Tie as tie
@@ -33,7 +34,7 @@ node-count-requires : tie.Need-node-count-requires
 node-count-requires c κs = search needs
 
 mul-if3 : tie.Need-mul-if3
-mul-if3 c = omega (arith, length-few _ _ _ _ _ (c .before .before .before .before .before .before .before .prepare .ensures .1 (c .before .before .if2 .left)) _ (c .before .node-count .ensures))
+mul-if3 c = omega (arith, length-few (c .before .before .before .before .before .before .before .prepare .ensures .1 (c .before .before .if2 .left)) _ (c .before .node-count .ensures))
 
 returns-3 : tie.Need-returns-3
 returns-3 c = record-wrong _ _ _ _ _ (c .before .before .before .before .before .before .before .before .prepare .ensures .1 (c .before .before .before .if2 .left)) _ (c .before .before .node-count .ensures) _ (sym (c .before .before .before .before .before .before .before .before .before .before .before .before .before .check-table .ensures) ∙ c .before .before .before .before .before .before .before .before .before .before .before .before .if1 .left) _ _ _ (not-true _ (c .if3 .taken))
@@ -51,7 +52,7 @@ slice-aggregate-write-marks-2 : tie.Need-slice-aggregate-write-marks-2
 slice-aggregate-write-marks-2 c = search needs
 
 write-marks-requires : tie.Need-write-marks-requires
-write-marks-requires c κs = let t = marks-tested _ _ _ _ _ (c .before .before .before .before .before .before .before .before .before .before .before .prepare .ensures .1 (c .before .before .before .before .before .before .if2 .left)) _ (c .before .before .before .before .before .node-count .ensures) (c .before .before .before .before .before .before .before .before .before .before .before .before .before .before .before .before .before .before .before .before .before .before .args .state .now) (c .before .before .before .before .before .before .before .before .before .before .before .before .before .before .before .before .before .before .before .before .before .before .args .marks .now) (c .before .before .before .before .before .before .before .before .before .before .before .before .before .before .before .before .before .before .before .before .before .before .args .classes .now) (c .before .before .before .if3 .left) in (prepared-laid _ _ _ _ _ (c .before .before .before .before .before .before .before .before .before .before .before .prepare .ensures .1 (c .before .before .before .before .before .before .if2 .left)) _ (c .before .before .before .before .before .node-count .ensures) _ (t .0), t .1 ∙ sym (plan-size _ _ _ _ _ (c .before .before .before .before .before .before .before .before .before .before .before .prepare .ensures .1 (c .before .before .before .before .before .before .if2 .left)) _ (c .before .before .before .before .before .node-count .ensures)))
+write-marks-requires c κs = let t = marks-tested _ _ _ _ _ (c .before .before .before .before .before .before .before .before .before .before .before .prepare .ensures .1 (c .before .before .before .before .before .before .if2 .left)) _ (c .before .before .before .before .before .node-count .ensures) (c .before .before .before .before .before .before .before .before .before .before .before .before .before .before .before .before .before .before .before .before .before .before .args .state .now) (c .before .before .before .before .before .before .before .before .before .before .before .before .before .before .before .before .before .before .before .before .before .before .args .marks .now) (c .before .before .before .before .before .before .before .before .before .before .before .before .before .before .before .before .before .before .before .before .before .before .args .classes .now) (c .before .before .before .if3 .left) in (prepared-laid (c .before .before .before .before .before .before .before .before .before .before .before .prepare .ensures .1 (c .before .before .before .before .before .before .if2 .left)) _ (c .before .before .before .before .before .node-count .ensures) _ (t .0), t .1 ∙ sym (plan-size (c .before .before .before .before .before .before .before .before .before .before .before .prepare .ensures .1 (c .before .before .before .before .before .before .if2 .left)) _ (c .before .before .before .before .before .node-count .ensures)))
 
 mul-two-2 : tie.Need-mul-two-2
 mul-two-2 c = omega (arith, c .before .before .before .before .before .before .before .before .node-count .ensures, nodes-few _ (c .before .before .before .before .before .before .before .before .before .before .before .before .before .before .prepare .ensures .1 (c .before .before .before .before .before .before .before .before .before .if2 .left) .accepted))

@@ -2,8 +2,9 @@
 use mathlib.Core.Path.{sym, _∙_, ap}
 use native.Mathlib.Omega.{arith}
 use Rattle.job.specs.Simulation.{simulated}
-use Rattle.desk_calls.proofs.PrepareLaws.{nodes-few, front-is, front-length, front-room}
-use Rattle.desk_calls.proofs.CallLaws.{simulate-refused, length-few, simulate-wrong, prepared-laid, simulate-done}
+use Rattle.desk_layout.proofs.PrepareLaws.{nodes-few, front-is, front-length, front-room}
+use Rattle.desk_layout.proofs.LayoutLaws.{length-few, prepared-laid}
+use Rattle.desk_calls.proofs.CallLaws.{simulate-refused, simulate-wrong, simulate-done}
 use borrow.Author.Needs.{needs}
 use Rattle.desk_calls.proofs.simulate.Statement.{statement}
 use Rattle.desk_calls.proofs.simulate.Tie as tie
@@ -27,7 +28,7 @@ node-count-requires : tie.Need-node-count-requires
 node-count-requires c κs = search needs
 
 mul-if2 : tie.Need-mul-if2
-mul-if2 c = omega (arith, length-few _ _ _ _ _ (c .before .before .before .before .before .before .before .prepare .ensures .1 (c .before .before .if1 .left)) _ (c .before .node-count .ensures))
+mul-if2 c = omega (arith, length-few (c .before .before .before .before .before .before .before .prepare .ensures .1 (c .before .before .if1 .left)) _ (c .before .node-count .ensures))
 
 returns-2 : tie.Need-returns-2
 returns-2 c = simulate-wrong _ _ _ _ _ (c .before .before .before .before .before .before .before .before .prepare .ensures .1 (c .before .before .before .if1 .left)) _ (c .before .before .node-count .ensures) _ (c .if2 .taken) _ _ _
@@ -60,7 +61,7 @@ slice-aggregate-simulate-3 : tie.Need-slice-aggregate-simulate-3
 slice-aggregate-simulate-3 c = search needs
 
 simulate-requires : tie.Need-simulate-requires
-simulate-requires c κs = prepared-laid _ _ _ _ _ (c .before .before .before .before .before .before .before .before .before .before .before .before .before .before .prepare .ensures .1 (c .before .before .before .before .before .before .before .before .before .if1 .left)) _ (c .before .before .before .before .before .before .before .before .node-count .ensures) _ (c .before .before .before .before .before .before .if2 .left)
+simulate-requires c κs = prepared-laid (c .before .before .before .before .before .before .before .before .before .before .before .before .before .before .prepare .ensures .1 (c .before .before .before .before .before .before .before .before .before .if1 .left)) _ (c .before .before .before .before .before .before .before .before .node-count .ensures) _ (c .before .before .before .before .before .before .if2 .left)
 
 at-desk-requires : tie.Need-at-desk-requires
 at-desk-requires c κs = search needs

@@ -2,7 +2,7 @@
 use mathlib.Core.Path.{sym, _∙_}
 use native.Mathlib.Omega.{arith}
 use Rattle.desks.proofs.DeskLaws.{check-accepts}
-use Rattle.desk_calls.proofs.PrepareLaws.{front-is, front-length, front-room}
+use Rattle.desk_layout.proofs.PrepareLaws.{front-is, front-length, front-room}
 use Rattle.desk_calls.proofs.CallLaws.{step-refused, step-wrong, step-fault, step-ok, step-decided}
 use borrow.Author.Needs.{needs}
 use Rattle.desk_calls.proofs.step.Statement.{statement}

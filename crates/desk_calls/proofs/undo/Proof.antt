@@ -4,8 +4,9 @@ use native.Mathlib.Omega.{arith}
 use borrow.Author.Tests.{not-true}
 use Rattle.keeping.proofs.UndoLaws as KU
 use Rattle.keeping.proofs.UndoLaws.{undo-none, undo-bad}
-use Rattle.desk_calls.proofs.PrepareLaws.{nodes-few, front-length, front-room}
-use Rattle.desk_calls.proofs.CallLaws.{undo-refused, length-few, undo-wrong, undo-tested, prepared-laid, undo-done}
+use Rattle.desk_layout.proofs.PrepareLaws.{nodes-few, front-length, front-room}
+use Rattle.desk_layout.proofs.LayoutLaws.{length-few, prepared-laid}
+use Rattle.desk_calls.proofs.CallLaws.{undo-refused, undo-wrong, undo-tested, undo-done}
 use borrow.Author.Needs.{needs}
 use Rattle.desk_calls.proofs.undo.Statement.{statement}
 use Rattle.desk_calls.proofs.undo.Tie as tie
@@ -29,13 +30,13 @@ node-count-requires : tie.Need-node-count-requires
 node-count-requires c κs = search needs
 
 mul-if2 : tie.Need-mul-if2
-mul-if2 c = omega (arith, length-few _ _ _ _ _ (c .before .before .before .before .before .before .before .prepare .ensures .1 (c .before .before .if1 .left)) _ (c .before .node-count .ensures))
+mul-if2 c = omega (arith, length-few (c .before .before .before .before .before .before .before .prepare .ensures .1 (c .before .before .if1 .left)) _ (c .before .node-count .ensures))
 
 returns-2 : tie.Need-returns-2
 returns-2 c = undo-wrong _ _ _ _ _ (c .before .before .before .before .before .before .before .before .before .prepare .ensures .1 (c .before .before .before .before .if1 .left)) _ (c .before .before .before .node-count .ensures) _ _ _ (not-true _ (c .if2 .taken)) _
 
 returns-3 : tie.Need-returns-3
-returns-3 c = let t = undo-tested _ _ _ _ _ (c .before .before .before .before .before .before .before .before .before .before .prepare .ensures .1 (c .before .before .before .before .before .if1 .left)) _ (c .before .before .before .before .node-count .ensures) (c .before .before .before .before .before .before .before .before .before .before .before .before .before .before .before .before .args .state .now) (c .before .before .before .before .before .before .before .before .before .before .before .before .before .before .before .before .args .count .now) (c .before .before .before .before .before .before .before .before .before .before .before .before .before .before .before .before .args .len) (c .before .if2 .left) in undo-done _ _ _ _ _ (c .before .before .before .before .before .before .before .before .before .before .prepare .ensures .1 (c .before .before .before .before .before .if1 .left)) _ (c .before .before .before .before .node-count .ensures) _ _ _ _ _ _ _ (λ es l last. undo-none _ _ _ _ (prepared-laid _ _ _ _ _ (c .before .before .before .before .before .before .before .before .before .before .prepare .ensures .1 (c .before .before .before .before .before .if1 .left)) _ (c .before .before .before .before .node-count .ensures) (c .before .before .before .before .before .before .before .before .before .before .before .before .before .before .before .before .args .state .now) (t .0)) _ es _ _ l (t .1) last (c .if3 .taken))
+returns-3 c = let t = undo-tested _ _ _ _ _ (c .before .before .before .before .before .before .before .before .before .before .prepare .ensures .1 (c .before .before .before .before .before .if1 .left)) _ (c .before .before .before .before .node-count .ensures) (c .before .before .before .before .before .before .before .before .before .before .before .before .before .before .before .before .args .state .now) (c .before .before .before .before .before .before .before .before .before .before .before .before .before .before .before .before .args .count .now) (c .before .before .before .before .before .before .before .before .before .before .before .before .before .before .before .before .args .len) (c .before .if2 .left) in undo-done _ _ _ _ _ (c .before .before .before .before .before .before .before .before .before .before .prepare .ensures .1 (c .before .before .before .before .before .if1 .left)) _ (c .before .before .before .before .node-count .ensures) _ _ _ _ _ _ _ (λ es l last. undo-none _ _ _ _ (prepared-laid (c .before .before .before .before .before .before .before .before .before .before .prepare .ensures .1 (c .before .before .before .before .before .if1 .left)) _ (c .before .before .before .before .node-count .ensures) (c .before .before .before .before .before .before .before .before .before .before .before .before .before .before .before .before .args .state .now) (t .0)) _ es _ _ l (t .1) last (c .if3 .taken))
 
 mul-two : tie.Need-mul-two
 mul-two c = omega (arith, c .before .before .before .before .node-count .ensures, nodes-few _ (c .before .before .before .before .before .before .before .before .before .before .prepare .ensures .1 (c .before .before .before .before .before .if1 .left) .accepted))
@@ -50,10 +51,10 @@ slice-aggregate-entry-fault-2 : tie.Need-slice-aggregate-entry-fault-2
 slice-aggregate-entry-fault-2 c = search needs
 
 entry-fault-requires : tie.Need-entry-fault-requires
-entry-fault-requires c κs = let t = undo-tested _ _ _ _ _ (c .before .before .before .before .before .before .before .before .before .before .before .before .prepare .ensures .1 (c .before .before .before .before .before .before .before .if1 .left)) _ (c .before .before .before .before .before .before .node-count .ensures) (c .before .before .before .before .before .before .before .before .before .before .before .before .before .before .before .before .before .before .args .state .now) (c .before .before .before .before .before .before .before .before .before .before .before .before .before .before .before .before .before .before .args .count .now) (c .before .before .before .before .before .before .before .before .before .before .before .before .before .before .before .before .before .before .args .len) (c .before .before .before .if2 .left) in (prepared-laid _ _ _ _ _ (c .before .before .before .before .before .before .before .before .before .before .before .before .prepare .ensures .1 (c .before .before .before .before .before .before .before .if1 .left)) _ (c .before .before .before .before .before .before .node-count .ensures) (c .before .before .before .before .before .before .before .before .before .before .before .before .before .before .before .before .before .before .args .state .now) (t .0)) .plan .few
+entry-fault-requires c κs = let t = undo-tested _ _ _ _ _ (c .before .before .before .before .before .before .before .before .before .before .before .before .prepare .ensures .1 (c .before .before .before .before .before .before .before .if1 .left)) _ (c .before .before .before .before .before .before .node-count .ensures) (c .before .before .before .before .before .before .before .before .before .before .before .before .before .before .before .before .before .before .args .state .now) (c .before .before .before .before .before .before .before .before .before .before .before .before .before .before .before .before .before .before .args .count .now) (c .before .before .before .before .before .before .before .before .before .before .before .before .before .before .before .before .before .before .args .len) (c .before .before .before .if2 .left) in (prepared-laid (c .before .before .before .before .before .before .before .before .before .before .before .before .prepare .ensures .1 (c .before .before .before .before .before .before .before .if1 .left)) _ (c .before .before .before .before .before .before .node-count .ensures) (c .before .before .before .before .before .before .before .before .before .before .before .before .before .before .before .before .before .before .args .state .now) (t .0)) .plan .few
 
 returns-4 : tie.Need-returns-4
-returns-4 c = let t = undo-tested _ _ _ _ _ (c .before .before .before .before .before .before .before .before .before .before .before .before .before .before .prepare .ensures .1 (c .before .before .before .before .before .before .before .before .before .if1 .left)) _ (c .before .before .before .before .before .before .before .before .node-count .ensures) (c .before .before .before .before .before .before .before .before .before .before .before .before .before .before .before .before .before .before .before .before .args .state .now) (c .before .before .before .before .before .before .before .before .before .before .before .before .before .before .before .before .before .before .before .before .args .count .now) (c .before .before .before .before .before .before .before .before .before .before .before .before .before .before .before .before .before .before .before .before .args .len) (c .before .before .before .before .before .if2 .left) in undo-done _ _ _ _ _ (c .before .before .before .before .before .before .before .before .before .before .before .before .before .before .prepare .ensures .1 (c .before .before .before .before .before .before .before .before .before .if1 .left)) _ (c .before .before .before .before .before .before .before .before .node-count .ensures) _ _ _ _ _ _ _ (λ es l last. undo-bad _ _ _ _ (prepared-laid _ _ _ _ _ (c .before .before .before .before .before .before .before .before .before .before .before .before .before .before .prepare .ensures .1 (c .before .before .before .before .before .before .before .before .before .if1 .left)) _ (c .before .before .before .before .before .before .before .before .node-count .ensures) (c .before .before .before .before .before .before .before .before .before .before .before .before .before .before .before .before .before .before .before .before .args .state .now) (t .0)) _ es _ _ l (t .1) last (c .before .before .before .before .if3 .left) _ (c .before .entry-fault .ensures _) (c .if4 .taken))
+returns-4 c = let t = undo-tested _ _ _ _ _ (c .before .before .before .before .before .before .before .before .before .before .before .before .before .before .prepare .ensures .1 (c .before .before .before .before .before .before .before .before .before .if1 .left)) _ (c .before .before .before .before .before .before .before .before .node-count .ensures) (c .before .before .before .before .before .before .before .before .before .before .before .before .before .before .before .before .before .before .before .before .args .state .now) (c .before .before .before .before .before .before .before .before .before .before .before .before .before .before .before .before .before .before .before .before .args .count .now) (c .before .before .before .before .before .before .before .before .before .before .before .before .before .before .before .before .before .before .before .before .args .len) (c .before .before .before .before .before .if2 .left) in undo-done _ _ _ _ _ (c .before .before .before .before .before .before .before .before .before .before .before .before .before .before .prepare .ensures .1 (c .before .before .before .before .before .before .before .before .before .if1 .left)) _ (c .before .before .before .before .before .before .before .before .node-count .ensures) _ _ _ _ _ _ _ (λ es l last. undo-bad _ _ _ _ (prepared-laid (c .before .before .before .before .before .before .before .before .before .before .before .before .before .before .prepare .ensures .1 (c .before .before .before .before .before .before .before .before .before .if1 .left)) _ (c .before .before .before .before .before .before .before .before .node-count .ensures) (c .before .before .before .before .before .before .before .before .before .before .before .before .before .before .before .before .before .before .before .before .args .state .now) (t .0)) _ es _ _ l (t .1) last (c .before .before .before .before .if3 .left) _ (c .before .entry-fault .ensures _) (c .if4 .taken))
 
 mul-two-2 : tie.Need-mul-two-2
 mul-two-2 c = omega (arith, c .before .before .before .before .before .before .before .before .node-count .ensures, nodes-few _ (c .before .before .before .before .before .before .before .before .before .before .before .before .before .before .prepare .ensures .1 (c .before .before .before .before .before .before .before .before .before .if1 .left) .accepted))
@@ -71,7 +72,7 @@ slice-aggregate-take-back-3 : tie.Need-slice-aggregate-take-back-3
 slice-aggregate-take-back-3 c = search needs
 
 take-back-requires : tie.Need-take-back-requires
-take-back-requires c κs = let t = undo-tested _ _ _ _ _ (c .before .before .before .before .before .before .before .before .before .before .before .before .before .before .before .before .before .before .prepare .ensures .1 (c .before .before .before .before .before .before .before .before .before .before .before .before .before .if1 .left)) _ (c .before .before .before .before .before .before .before .before .before .before .before .before .node-count .ensures) (c .before .before .before .before .before .before .before .before .before .before .before .before .before .before .before .before .before .before .before .before .before .before .before .before .args .state .now) (c .before .before .before .before .before .before .before .before .before .before .before .before .before .before .before .before .before .before .before .before .before .before .before .before .args .count .now) (c .before .before .before .before .before .before .before .before .before .before .before .before .before .before .before .before .before .before .before .before .before .before .before .before .args .len) (c .before .before .before .before .before .before .before .before .before .if2 .left) in ((prepared-laid _ _ _ _ _ (c .before .before .before .before .before .before .before .before .before .before .before .before .before .before .before .before .before .before .prepare .ensures .1 (c .before .before .before .before .before .before .before .before .before .before .before .before .before .if1 .left)) _ (c .before .before .before .before .before .before .before .before .before .before .before .before .node-count .ensures) (c .before .before .before .before .before .before .before .before .before .before .before .before .before .before .before .before .before .before .before .before .before .before .before .before .args .state .now) (t .0)), sym (c .before .before .before .before .before .entry-fault .ensures _) ∙ c .before .before .before .before .if4 .left)
+take-back-requires c κs = let t = undo-tested _ _ _ _ _ (c .before .before .before .before .before .before .before .before .before .before .before .before .before .before .before .before .before .before .prepare .ensures .1 (c .before .before .before .before .before .before .before .before .before .before .before .before .before .if1 .left)) _ (c .before .before .before .before .before .before .before .before .before .before .before .before .node-count .ensures) (c .before .before .before .before .before .before .before .before .before .before .before .before .before .before .before .before .before .before .before .before .before .before .before .before .args .state .now) (c .before .before .before .before .before .before .before .before .before .before .before .before .before .before .before .before .before .before .before .before .before .before .before .before .args .count .now) (c .before .before .before .before .before .before .before .before .before .before .before .before .before .before .before .before .before .before .before .before .before .before .before .before .args .len) (c .before .before .before .before .before .before .before .before .before .if2 .left) in ((prepared-laid (c .before .before .before .before .before .before .before .before .before .before .before .before .before .before .before .before .before .before .prepare .ensures .1 (c .before .before .before .before .before .before .before .before .before .before .before .before .before .if1 .left)) _ (c .before .before .before .before .before .before .before .before .before .before .before .before .node-count .ensures) (c .before .before .before .before .before .before .before .before .before .before .before .before .before .before .before .before .before .before .before .before .before .before .before .before .args .state .now) (t .0)), sym (c .before .before .before .before .before .entry-fault .ensures _) ∙ c .before .before .before .before .if4 .left)
 
 sub-count : tie.Need-sub-count
 sub-count c = search needs
@@ -80,7 +81,7 @@ same-length : tie.Need-same-length
 same-length c = search needs
 
 returns-5 : tie.Need-returns-5
-returns-5 c = let t = undo-tested _ _ _ _ _ (c .before .before .before .before .before .before .before .before .before .before .before .before .before .before .before .before .before .before .before .before .before .prepare .ensures .1 (c .before .before .before .before .before .before .before .before .before .before .before .before .before .before .before .before .if1 .left)) _ (c .before .before .before .before .before .before .before .before .before .before .before .before .before .before .before .node-count .ensures) (c .before .before .before .before .before .before .before .before .before .before .before .before .before .before .before .before .before .before .before .before .before .before .before .before .before .before .before .args .state .now) (c .before .before .before .before .before .before .before .before .before .before .before .before .before .before .before .before .before .before .before .before .before .before .before .before .before .before .before .args .count .now) (c .before .before .before .before .before .before .before .before .before .before .before .before .before .before .before .before .before .before .before .before .before .before .before .before .before .before .before .args .len) (c .before .before .before .before .before .before .before .before .before .before .before .before .if2 .left) in undo-done _ _ _ _ _ (c .before .before .before .before .before .before .before .before .before .before .before .before .before .before .before .before .before .before .before .before .before .prepare .ensures .1 (c .before .before .before .before .before .before .before .before .before .before .before .before .before .before .before .before .if1 .left)) _ (c .before .before .before .before .before .before .before .before .before .before .before .before .before .before .before .node-count .ensures) _ _ _ _ _ _ _ (λ es l last. KU.undo-done _ _ _ _ (prepared-laid _ _ _ _ _ (c .before .before .before .before .before .before .before .before .before .before .before .before .before .before .before .before .before .before .before .before .before .prepare .ensures .1 (c .before .before .before .before .before .before .before .before .before .before .before .before .before .before .before .before .if1 .left)) _ (c .before .before .before .before .before .before .before .before .before .before .before .before .before .before .before .node-count .ensures) (c .before .before .before .before .before .before .before .before .before .before .before .before .before .before .before .before .before .before .before .before .before .before .before .before .before .before .before .args .state .now) (t .0)) _ es _ _ l (t .1) last (c .before .before .before .before .before .before .before .before .before .before .before .if3 .left) (sym (c .before .before .before .before .before .before .before .before .entry-fault .ensures _) ∙ c .before .before .before .before .before .before .before .if4 .left) _ (c .before .before .take-back .ensures))
+returns-5 c = let t = undo-tested _ _ _ _ _ (c .before .before .before .before .before .before .before .before .before .before .before .before .before .before .before .before .before .before .before .before .before .prepare .ensures .1 (c .before .before .before .before .before .before .before .before .before .before .before .before .before .before .before .before .if1 .left)) _ (c .before .before .before .before .before .before .before .before .before .before .before .before .before .before .before .node-count .ensures) (c .before .before .before .before .before .before .before .before .before .before .before .before .before .before .before .before .before .before .before .before .before .before .before .before .before .before .before .args .state .now) (c .before .before .before .before .before .before .before .before .before .before .before .before .before .before .before .before .before .before .before .before .before .before .before .before .before .before .before .args .count .now) (c .before .before .before .before .before .before .before .before .before .before .before .before .before .before .before .before .before .before .before .before .before .before .before .before .before .before .before .args .len) (c .before .before .before .before .before .before .before .before .before .before .before .before .if2 .left) in undo-done _ _ _ _ _ (c .before .before .before .before .before .before .before .before .before .before .before .before .before .before .before .before .before .before .before .before .before .prepare .ensures .1 (c .before .before .before .before .before .before .before .before .before .before .before .before .before .before .before .before .if1 .left)) _ (c .before .before .before .before .before .before .before .before .before .before .before .before .before .before .before .node-count .ensures) _ _ _ _ _ _ _ (λ es l last. KU.undo-done _ _ _ _ (prepared-laid (c .before .before .before .before .before .before .before .before .before .before .before .before .before .before .before .before .before .before .before .before .before .prepare .ensures .1 (c .before .before .before .before .before .before .before .before .before .before .before .before .before .before .before .before .if1 .left)) _ (c .before .before .before .before .before .before .before .before .before .before .before .before .before .before .before .node-count .ensures) (c .before .before .before .before .before .before .before .before .before .before .before .before .before .before .before .before .before .before .before .before .before .before .before .before .before .before .before .args .state .now) (t .0)) _ es _ _ l (t .1) last (c .before .before .before .before .before .before .before .before .before .before .before .if3 .left) (sym (c .before .before .before .before .before .before .before .before .entry-fault .ensures _) ∙ c .before .before .before .before .before .before .before .if4 .left) _ (c .before .before .take-back .ensures))
 
 pub undo-spec : {M : Type 1} → statement M
 undo-spec =

@@ -1,5 +1,5 @@
 -- The parts of what is taken back, whatever the entries are. Assumes nothing.
-use Rattle.vulcedar.proofs.ResultLaws.{undone-result}
+use Rattle.results.proofs.ResultLaws.{undone-result}
 use borrow.Author.Needs.{needs}
 use Rattle.vulcedar.proofs.desk_undo_result.Statement.{statement}
 use Rattle.vulcedar.proofs.desk_undo_result.Tie as tie

@@ -1,5 +1,5 @@
 -- The parts of what is kept, whatever the entries are. Assumes nothing.
-use Rattle.vulcedar.proofs.ResultLaws.{kept-result}
+use Rattle.results.proofs.ResultLaws.{kept-result}
 use borrow.Author.Needs.{needs}
 use Rattle.vulcedar.proofs.keep_result.Statement.{statement}
 use Rattle.vulcedar.proofs.keep_result.Tie as tie

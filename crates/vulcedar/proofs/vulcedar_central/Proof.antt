@@ -1,8 +1,8 @@
 -- One law, and the result of each ruling. Assumes nothing.
 use mathlib.Core.Path.{sym, ap, _∙_}
 use Rattle.central.specs.Rule.{rulingNumber, rulingValue}
-use Rattle.vulcedar.specs.Result.{ofRuling}
-use Rattle.vulcedar.proofs.ResultLaws.{ruling-result}
+use Rattle.results.specs.Result.{ofRuling}
+use Rattle.results.proofs.ResultLaws.{ruling-result}
 use borrow.Author.Needs.{needs}
 use Rattle.vulcedar.proofs.vulcedar_central.Statement.{statement}
 use Rattle.vulcedar.proofs.vulcedar_central.Tie as tie

@@ -1,6 +1,6 @@
 -- Assumes nothing.
 use mathlib.Core.Path.{ap, _∙_}
-use Rattle.vulcedar.specs.Result.{result}
+use Rattle.results.specs.Result.{result}
 use borrow.Author.Needs.{needs}
 use Rattle.vulcedar.proofs.vulcedar_check.Statement.{statement}
 use Rattle.vulcedar.proofs.vulcedar_check.Tie as tie

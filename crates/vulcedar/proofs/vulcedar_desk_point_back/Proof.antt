@@ -1,5 +1,5 @@
 -- The parts of what is left. Assumes nothing.
-use Rattle.vulcedar.proofs.ResultLaws.{returned-result}
+use Rattle.results.proofs.ResultLaws.{returned-result}
 use borrow.Author.Needs.{needs}
 use Rattle.vulcedar.proofs.vulcedar_desk_point_back.Statement.{statement}
 use Rattle.vulcedar.proofs.vulcedar_desk_point_back.Tie as tie

@@ -1,6 +1,6 @@
 -- The parts of the contract's one value. Assumes nothing.
 use mathlib.Core.Path.{sym, ap, _∙_}
-use Rattle.vulcedar.specs.Result.{ofVerdict}
+use Rattle.results.specs.Result.{ofVerdict}
 use borrow.Author.Needs.{needs}
 use Rattle.vulcedar.proofs.vulcedar_desk_step.Statement.{statement}
 use Rattle.vulcedar.proofs.vulcedar_desk_step.Tie as tie

@@ -1,6 +1,6 @@
 -- The parts of the contract's one value. Assumes nothing.
 use mathlib.Core.Path.{sym, ap, _∙_}
-use Rattle.vulcedar.specs.Result.{result}
+use Rattle.results.specs.Result.{result}
 use borrow.Author.Needs.{needs}
 use Rattle.vulcedar.proofs.vulcedar_from_depths.Statement.{statement}
 use Rattle.vulcedar.proofs.vulcedar_from_depths.Tie as tie

@@ -1,7 +1,7 @@
 -- A guard has at most 290 bytes, so its length fits the value. Assumes nothing.
 use Prim.Native.Nat.{_≤_}
 use native.Mathlib.Omega.{arith}
-use Rattle.vulcedar.proofs.ResultLaws.{done-short, done-result, refused-result}
+use Rattle.results.proofs.ResultLaws.{done-short, done-result, refused-result}
 use borrow.Author.Needs.{needs}
 use Rattle.vulcedar.proofs.vulcedar_guard.Statement.{statement}
 use Rattle.vulcedar.proofs.vulcedar_guard.Tie as tie

@@ -48,7 +48,7 @@ use Rattle.journal.proofs.append.Symbol as append-def
 use Rattle.journal.proofs.append.Symbol.{name as #append}
 use Rattle.journal.proofs.append.Met as append-thm
 use Rattle.keeping.specs.Keeping.{keepOwn}
-use Rattle.vulcedar.specs.Result.{AsKept}
+use Rattle.results.specs.Result.{AsKept}
 use Rattle.vulcedar.specs.declared.KeptResult.{KeptResult}
 use Rattle.vulcedar.proofs.KeptResult as K
 use Rattle.vulcedar.proofs.KeptResult.Laws as K′

@@ -1,5 +1,5 @@
 -- The parts of what is left. Assumes nothing.
-use Rattle.vulcedar.proofs.ResultLaws.{named-result}
+use Rattle.results.proofs.ResultLaws.{named-result}
 use borrow.Author.Needs.{needs}
 use Rattle.vulcedar.proofs.vulcedar_point_name.Statement.{statement}
 use Rattle.vulcedar.proofs.vulcedar_point_name.Tie as tie

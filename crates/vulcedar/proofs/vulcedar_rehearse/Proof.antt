@@ -2,7 +2,7 @@
 use Prim.Native.Nat.{_≤_}
 use native.Mathlib.Omega.{arith}
 use Rattle.script.proofs.ScriptLaws.{run-length}
-use Rattle.vulcedar.proofs.ResultLaws.{text-result}
+use Rattle.results.proofs.ResultLaws.{text-result}
 use borrow.Author.Needs.{needs}
 use Rattle.vulcedar.proofs.vulcedar_rehearse.Statement.{statement}
 use Rattle.vulcedar.proofs.vulcedar_rehearse.Tie as tie

@@ -1,6 +1,6 @@
 -- The answer's number and nodes, packed, and the lent bytes. Assumes nothing.
 use mathlib.Core.Path.{sym, ap, _∙_}
-use Rattle.vulcedar.specs.Result.{ofMade}
+use Rattle.results.specs.Result.{ofMade}
 use borrow.Author.Needs.{needs}
 use Rattle.vulcedar.proofs.vulcedar_repeat.Statement.{statement}
 use Rattle.vulcedar.proofs.vulcedar_repeat.Tie as tie

@@ -1,6 +1,6 @@
 -- The answer's number and rule, packed. Assumes nothing.
 use mathlib.Core.Path.{sym, ap, _∙_}
-use Rattle.vulcedar.specs.Result.{ofFoundRule}
+use Rattle.results.specs.Result.{ofFoundRule}
 use borrow.Author.Needs.{needs}
 use Rattle.vulcedar.proofs.vulcedar_rule.Statement.{statement}
 use Rattle.vulcedar.proofs.vulcedar_rule.Tie as tie

@@ -1,8 +1,8 @@
 -- Each verdict is its result. Assumes nothing.
 use mathlib.Core.Path.{sym, ap, _∙_}
 use Rattle.site.specs.Verdict.{reportOf}
-use Rattle.vulcedar.specs.Result.{ofReport, ofVerdict}
-use Rattle.vulcedar.proofs.ResultLaws.{step-result}
+use Rattle.results.specs.Result.{ofReport, ofVerdict}
+use Rattle.results.proofs.ResultLaws.{step-result}
 use borrow.Author.Needs.{needs}
 use Rattle.vulcedar.proofs.vulcedar_step.Statement.{statement}
 use Rattle.vulcedar.proofs.vulcedar_step.Tie as tie

@@ -47,7 +47,7 @@ use Rattle.journal.proofs.entry_at.Symbol as entry-def
 use Rattle.journal.proofs.entry_at.Symbol.{name as #entry-at}
 use Rattle.journal.proofs.entry_at.Met as entry-thm
 use Rattle.keeping.specs.Keeping.{undoOwn}
-use Rattle.vulcedar.specs.Result.{AsUndone}
+use Rattle.results.specs.Result.{AsUndone}
 use Rattle.vulcedar.proofs.last_place as last′
 use Rattle.vulcedar.proofs.last_place.Symbol as last-def
 use Rattle.vulcedar.proofs.last_place.Symbol.{name as #last-place}

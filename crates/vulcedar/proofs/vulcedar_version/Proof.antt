@@ -1,6 +1,6 @@
 -- Assumes nothing.
 use mathlib.Core.Path.{refl}
-use Rattle.vulcedar.specs.Result.{version}
+use Rattle.vulcedar.specs.Version.{version}
 use Rattle.vulcedar.proofs.vulcedar_version.Statement.{statement}
 use Rattle.vulcedar.proofs.vulcedar_version.Tie as tie
 

@@ -1,0 +1,2 @@
+-- Letters: n a number, q a site, v a value.
+pub mod Result

@@ -1,2 +1,0 @@
--- Laws that the proofs here cite.
-pub mod ResultLaws
