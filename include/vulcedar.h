@@ -1,5 +1,5 @@
 /*
- * Vulcedar 1.7.0: jobs that follow a plan, decided by the sites that do the work.
+ * Vulcedar 1.8.0: jobs that follow a plan, decided by the sites that do the work.
  *
  * A plan is a tree of tasks and blocks. Every node has a site; a site keeps one row of bytes, what it has heard, and
  * decides the events of its node from that row alone. This header is all that a host needs; docs/GUIDE.md shows how a
@@ -97,7 +97,7 @@ extern "C" {
 
 /* The version of this header. vulcedar_version() is that of the library that is linked. */
 #define VULCEDAR_VERSION_MAJOR 1
-#define VULCEDAR_VERSION_MINOR 7
+#define VULCEDAR_VERSION_MINOR 8
 #define VULCEDAR_VERSION_PATCH 0
 #define VULCEDAR_VERSION (65536u * VULCEDAR_VERSION_MAJOR + 256u * VULCEDAR_VERSION_MINOR + VULCEDAR_VERSION_PATCH)
 
@@ -166,6 +166,8 @@ enum vulcedar_number {
     VULCEDAR_NOT_REPEATABLE = 23,  /* the marked node is no block of kind 03, 04, 05 or 08 with exactly one child */
     VULCEDAR_BAD_COUNT = 24,       /* the count is not 1 to VULCEDAR_CHILDREN_MOST */
     VULCEDAR_TOO_MANY_NODES = 25,  /* the repeated plan would have more than VULCEDAR_NODES_MOST nodes */
+    VULCEDAR_LAST_PLAN = 26,       /* no plan of up to VULCEDAR_SMALL_NODES_MOST nodes comes after this one; found behind 6 and before 7 */
+    VULCEDAR_NOT_SMALL = 27,       /* the plan has more than VULCEDAR_SMALL_NODES_MOST nodes; found behind 6 and before 7 */
     VULCEDAR_BAD_MARKS = 28,       /* the marks are not those that the pass leaves for these answers */
     VULCEDAR_BAD_TARGET = 29,      /* a mark is wanted that the pass leaves at no node, or an end that it leaves at no root */
     VULCEDAR_NO_WAY = 30           /* the pass accepts no answers with the marks that are wanted */
@@ -192,6 +194,8 @@ enum vulcedar_number {
 /* Limits. No plan of two bytes a node has more bytes than VULCEDAR_PLAN_MOST, no guard more than VULCEDAR_GUARD_MOST. */
 #define VULCEDAR_NODES_MOST 160u
 #define VULCEDAR_PLAN_MOST 320u
+#define VULCEDAR_SMALL_NODES_MOST 5u
+#define VULCEDAR_SMALL_PLAN_MOST 10u
 #define VULCEDAR_DESK_HIGHEST 0x9fu
 #define VULCEDAR_CHILDREN_MOST 32u
 #define VULCEDAR_DEPTH_MOST 32u
@@ -249,6 +253,16 @@ uint32_t vulcedar_from_depths(const uint8_t *depths, size_t depths_len, uint8_t 
  * is written only on 0.
  */
 uint32_t vulcedar_repeat(const uint8_t *plan, size_t plan_len, uint32_t node, uint32_t count, uint8_t *out, size_t out_len);
+
+/*
+ * All small plans, one after another: writes to the front of out the plan that comes next, of all that vulcedar_check
+ * accepts with up to VULCEDAR_SMALL_NODES_MOST nodes. They come in rising number of nodes, and those of one number in rising
+ * order of their bytes. Begin with the single task, 01ff, and hand in what was written until 26 is answered: there are 4,962,
+ * and each comes up once. The value is the number of nodes of the plan written; the bytes of out behind its two bytes a node
+ * are left. 1 to 6; 26 if the plan handed in is the last one, 27 if it has more than VULCEDAR_SMALL_NODES_MOST nodes; then 7
+ * if out_len is not VULCEDAR_SMALL_PLAN_MOST. out is written only on 0.
+ */
+uint32_t vulcedar_next_plan(const uint8_t *plan, size_t plan_len, uint8_t *out, size_t out_len);
 
 /*
  * Checks a plan and tells how deep every node lies, for an editor that shows the tree while it is typed. depths has one

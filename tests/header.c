@@ -2,7 +2,7 @@
  * What include/vulcedar.h and docs/GUIDE.md say about calling, tried: null pointers with length 0, where a result has a
  * site, the rule beside a guard, the common table, the version, a journal and its points, plans with desks, one answer of a
  * pass changed, the way to each target of a plan, one tree in each of its numberings, depth forms, templates that are
- * repeated, and what a false message does. Compiled as C and as C++.
+ * repeated, all small plans one after another, and what a false message does. Compiled as C and as C++.
  */
 #include <inttypes.h>
 #include <stdio.h>
@@ -21,6 +21,7 @@ LAYOUT(marks, VULCEDAR_BAD_MARKS == 28 && VULCEDAR_BAD_ANSWER == 13 && VULCEDAR_
 LAYOUT(targets, VULCEDAR_BAD_TARGET == 29 && VULCEDAR_NO_WAY == 30);
 LAYOUT(forms, VULCEDAR_BAD_DEPTH == 17 && VULCEDAR_NOT_RENUMBERED == 18);
 LAYOUT(templates, VULCEDAR_NOT_REPEATABLE == 23 && VULCEDAR_BAD_COUNT == 24 && VULCEDAR_TOO_MANY_NODES == 25 && VULCEDAR_PLAN_MOST == 2 * VULCEDAR_NODES_MOST);
+LAYOUT(small, VULCEDAR_LAST_PLAN == 26 && VULCEDAR_NOT_SMALL == 27 && VULCEDAR_SMALL_NODES_MOST == 5 && VULCEDAR_SMALL_PLAN_MOST == 2 * VULCEDAR_SMALL_NODES_MOST);
 LAYOUT(desks, VULCEDAR_DESK_HIGHEST == 0x9f && VULCEDAR_BAD_DESK == 22 && VULCEDAR_DESK_HIGHEST + 1 == VULCEDAR_NODES_MOST);
 
 static int wrong;
@@ -54,6 +55,7 @@ static void nulls(void)
     expect("depth form of nothing", vulcedar_to_depths(NULL, 0, NULL, 0), VULCEDAR_BAD_LENGTH);
     expect("plan of no depth form", vulcedar_from_depths(NULL, 0, NULL, 0), VULCEDAR_BAD_LENGTH);
     expect("repeating of nothing", vulcedar_repeat(NULL, 0, 0, 1, NULL, 0), VULCEDAR_BAD_LENGTH);
+    expect("the next of nothing", vulcedar_next_plan(NULL, 0, NULL, 0), VULCEDAR_BAD_LENGTH);
     expect("depths of nothing", vulcedar_check_depths(NULL, 0, NULL, 0), VULCEDAR_BAD_LENGTH);
     expect("guard of nothing", vulcedar_guard(NULL, 0, VULCEDAR_START, 0, NULL, 0), VULCEDAR_BAD_LENGTH);
     expect("rule of nothing", vulcedar_rule(NULL, 0, VULCEDAR_START, 0), VULCEDAR_BAD_LENGTH);
@@ -83,6 +85,7 @@ static void nulls(void)
     expect("depth form into nothing", vulcedar_to_depths(plan, sizeof plan, NULL, 0), VULCEDAR_BAD_BUFFER);
     expect("plan of a depth form into nothing", vulcedar_from_depths(form, sizeof form, NULL, 0), VULCEDAR_BAD_BUFFER);
     expect("repeating into nothing", vulcedar_repeat(plan, sizeof plan, 0, 1, NULL, 0), VULCEDAR_BAD_BUFFER);
+    expect("the next plan into nothing", vulcedar_next_plan(plan, sizeof plan, NULL, 0), VULCEDAR_BAD_BUFFER);
     expect("depths into nothing", vulcedar_check_depths(plan, sizeof plan, NULL, 0), VULCEDAR_BAD_BUFFER);
     expect("guard into nothing", vulcedar_guard(plan, sizeof plan, VULCEDAR_START, 0, NULL, 0), VULCEDAR_BAD_BUFFER);
     expect("step on nothing", vulcedar_step(plan, sizeof plan, VULCEDAR_START, 0, NULL, 0), VULCEDAR_BAD_BUFFER);
@@ -894,6 +897,79 @@ static void not_repeated(void)
     }
 }
 
+/* Asks for the next plan into out_len bytes: those behind it are left, and all where it is refused. The plan written is accepted, and
+   has as many nodes as the one handed in and larger bytes, or one node more. */
+static uint32_t next_plan(const uint8_t *plan, size_t plan_len, uint8_t out[VULCEDAR_SMALL_PLAN_MOST], size_t out_len)
+{
+    uint8_t room[4 * VULCEDAR_SMALL_PLAN_MOST], left[sizeof room];
+    memset(left, 99, sizeof left);
+    memset(room, 99, sizeof room);
+    uint32_t r = vulcedar_next_plan(plan, plan_len, room, out_len);
+    size_t written = VULCEDAR_NUMBER(r) == VULCEDAR_PASSED ? 2 * VULCEDAR_VALUE(r) : 0;
+    expect("bytes behind a next plan are left", memcmp(room + written, left, sizeof room - written) == 0, 1);
+    if (written == 0) return r;
+    expect("a passed result has nothing else", r, result(VULCEDAR_PASSED, 0, VULCEDAR_VALUE(r)));
+    expect("a next plan", vulcedar_check(room, written), VULCEDAR_PASSED);
+    expect("it comes after", written == plan_len ? memcmp(room, plan, written) > 0 : written == plan_len + 2, 1);
+    memcpy(out, room, written);
+    return r;
+}
+
+/* The last small plan. */
+static const uint8_t chain[] = {
+    VULCEDAR_WAITING_AND, VULCEDAR_NO_PARENT, VULCEDAR_WAITING_AND, 0, VULCEDAR_WAITING_AND, 1, VULCEDAR_WAITING_AND, 2, VULCEDAR_TASK, 3,
+};
+
+/* From the single task on until no plan comes: how many there are of each size, which come first, and which is last. */
+static void small_plans(void)
+{
+    static const uint32_t counts[] = { 0, 1, 6, 43, 390, 4522 };
+    static const uint8_t kinds[] = { VULCEDAR_SERIAL, VULCEDAR_AND, VULCEDAR_OR, VULCEDAR_XOR, VULCEDAR_CONTINGENCY, VULCEDAR_WAITING_AND };
+    uint32_t met[VULCEDAR_SMALL_NODES_MOST + 1] = { 0 }, all = 0, r = result(VULCEDAR_PASSED, 0, 1);
+    uint8_t plan[VULCEDAR_SMALL_PLAN_MOST] = { VULCEDAR_TASK, VULCEDAR_NO_PARENT }, out[sizeof plan];
+    while (VULCEDAR_NUMBER(r) == VULCEDAR_PASSED && all < 10000) {
+        uint32_t nodes = VULCEDAR_VALUE(r);
+        if (nodes == 2) expect("a block with a task", plan[0] == kinds[met[2] % 6] && plan[2] == VULCEDAR_TASK && plan[3] == 0, 1);
+        met[nodes]++;
+        all++;
+        r = next_plan(plan, 2 * nodes, out, sizeof out);
+        if (VULCEDAR_NUMBER(r) == VULCEDAR_PASSED) memcpy(plan, out, 2 * VULCEDAR_VALUE(r));
+    }
+    expect("behind the last", r, VULCEDAR_LAST_PLAN);
+    expect("the last small plan", memcmp(plan, chain, sizeof chain) == 0, 1);
+    expect("all small plans", all, 4962);
+    for (size_t nodes = 0; nodes <= VULCEDAR_SMALL_NODES_MOST; nodes++) expect("small plans of a size", met[nodes], counts[nodes]);
+}
+
+/* 1 to 6, then 26 and 27, then 7. */
+static void not_small(void)
+{
+    static const uint8_t task[] = { VULCEDAR_TASK, VULCEDAR_NO_PARENT };
+    uint8_t out[VULCEDAR_SMALL_PLAN_MOST], deep[2 * VULCEDAR_DEPTH_MOST + 4], six[sizeof chain + 2], faulty[sizeof six];
+    memcpy(six, chain, sizeof chain);
+    six[8] = VULCEDAR_SERIAL, six[10] = VULCEDAR_TASK, six[11] = 4; /* one node more */
+    for (size_t v = 0; v < sizeof deep / 2; v++) {
+        deep[2 * v] = v + 1 < sizeof deep / 2 ? VULCEDAR_AND : VULCEDAR_TASK;
+        deep[2 * v + 1] = v == 0 ? byte_of(VULCEDAR_NO_PARENT) : byte_of(v - 1);
+    }
+    for (size_t length = 0; length <= 4 * VULCEDAR_SMALL_PLAN_MOST; length++) {
+        for (size_t cut = 0; cut < sizeof chain; cut++) /* cut anywhere, a block has no child */
+            expect("a cut plan", next_plan(chain, cut, out, length), cut % 2 || cut == 0 ? VULCEDAR_BAD_LENGTH : VULCEDAR_BAD_CHILDREN);
+        for (uint32_t fault = VULCEDAR_BAD_KIND; fault <= VULCEDAR_TASK_PARENT; fault++) { /* of a larger plan and of a small one */
+            memcpy(faulty, six, sizeof six);
+            faulty[4] = fault == VULCEDAR_BAD_KIND ? 9 : fault == VULCEDAR_TASK_PARENT ? VULCEDAR_TASK : VULCEDAR_WAITING_AND;
+            faulty[5] = fault == VULCEDAR_BAD_PARENT ? 2 : 1;
+            expect("a fault before 27", next_plan(faulty, sizeof faulty, out, length), fault);
+            expect("a fault of a small plan", next_plan(faulty, sizeof chain, out, length), fault);
+        }
+        expect("a plan that is too deep", next_plan(deep, sizeof deep, out, length), VULCEDAR_TOO_DEEP);
+        expect("26 before 7", next_plan(chain, sizeof chain, out, length), VULCEDAR_LAST_PLAN);
+        expect("27 before 7", next_plan(six, sizeof six, out, length), VULCEDAR_NOT_SMALL);
+        uint32_t r = length == VULCEDAR_SMALL_PLAN_MOST ? result(VULCEDAR_PASSED, 0, 2) : result(VULCEDAR_BAD_BUFFER, 0, 0);
+        expect("a next plan's length", next_plan(task, sizeof task, out, length), r);
+    }
+}
+
 /* Task 1, then task 2: site 2 is told that 1 committed, which it did not, and the block commits without it. */
 static void false_message(void)
 {
@@ -946,7 +1022,9 @@ int main(void)
     refused_forms();
     repeated();
     not_repeated();
+    small_plans();
+    not_small();
     false_message();
-    if (wrong == 0) printf("header: nulls, parts of results, a journal, its points, tables, desks, a changed answer, ways, forms of a plan, repeated templates, the version and a false message are as it says\n");
+    if (wrong == 0) printf("header: nulls, parts of results, a journal, its points, tables, desks, a changed answer, ways, forms of a plan, repeated templates, all small plans, the version and a false message are as it says\n");
     return wrong == 0 ? 0 : 1;
 }

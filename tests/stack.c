@@ -2,8 +2,8 @@
  * How much stack a call takes: every exported function is called on a painted stack of its own, for plans of 160 nodes as
  * deep and as wide as they may be, and for every event of them, refused and passed; with desks, three nodes share one. An answer
  * is changed for every node, and a way is looked for to every target. Templates are repeated up to 160 nodes, as deep and as wide
- * as they may be, and beyond. Prints the deepest of each function; fails if one is above
- * what the header says. Symbols must be bound beforehand (-Wl,-z,now): the loader's own stack is not the library's.
+ * as they may be, and beyond. The next plan is asked for at every small one. Prints the deepest of each function; fails if one is
+ * above what the header says. Symbols must be bound beforehand (-Wl,-z,now): the loader's own stack is not the library's.
  */
 #define _GNU_SOURCE
 #include <stdio.h>
@@ -20,6 +20,8 @@ static uint8_t plan[2 * NODES], row[NODES], marks[NODES], notes[NODES], classes[
 static uint8_t fixed[2 * NODES], depths[2 * NODES]; /* the plan in the fixed numbering, and its depth form */
 static uint8_t drawn[2 * NODES]; /* a template, its marked node, and how many times its channel fits */
 static uint32_t drawn_nodes, marked, times;
+static uint8_t small[VULCEDAR_SMALL_PLAN_MOST] = { VULCEDAR_TASK, VULCEDAR_NO_PARENT }; /* a small plan */
+static uint32_t small_nodes = 1;
 static uint8_t passed[NODES]; /* the marks of the pass over the answers */
 static uint8_t with_desks[3 * NODES], desk_state[NODES * NODES]; /* the same plan with desks */
 static size_t desk_len; /* of that state */
@@ -41,6 +43,8 @@ static void not_renumbered(void) { answer = vulcedar_to_depths(plan, 2 * nodes, 
 static void from_depths(void) { answer = vulcedar_from_depths(depths, 2 * nodes, out, 2 * nodes); }
 static void repeat(void) { answer = vulcedar_repeat(drawn, 2 * drawn_nodes, marked, times, out, sizeof out); }
 static void repeat_too_often(void) { answer = vulcedar_repeat(drawn, 2 * drawn_nodes, marked, times + 1, out, sizeof out); }
+static void next_plan(void) { answer = vulcedar_next_plan(small, 2 * small_nodes, out, sizeof small); }
+static void not_small(void) { answer = vulcedar_next_plan(plan, 2 * nodes, out, sizeof small); }
 static void check_depths(void) { answer = vulcedar_check_depths(plan, 2 * nodes, out, nodes); }
 static void guard(void) { answer = vulcedar_guard(plan, 2 * nodes, code, node, buf, sizeof buf); }
 static void short_guard(void) { answer = vulcedar_guard(plan, 2 * nodes, code, node, buf, sizeof buf - 1); }
@@ -88,6 +92,7 @@ static struct call { const char *name; void (*run)(void); int events; size_t mos
     { "check", check, 0, 0 }, { "rewrite", rewrite, 0, 0 }, { "check_depths", check_depths, 0, 0 },
     { "renumber", renumber, 0, 0 }, { "to_depths", to_depths, 0, 0 }, { "to_depths (as it is)", not_renumbered, 0, 0 }, { "from_depths", from_depths, 0, 0 },
     { "repeat", repeat, 0, 0 }, { "repeat (too often)", repeat_too_often, 0, 0 },
+    { "next_plan", next_plan, 0, 0 }, { "next_plan (not small)", not_small, 0, 0 },
     { "guard", guard, 1, 0 }, { "guard (short buffer)", short_guard, 1, 0 }, { "rule", rule, 1, 0 }, { "step", step, 1, 0 },
     { "hear", hear, 1, 0 }, { "pass", pass, 0, 0 }, { "impact", impact, 1, 0 }, { "way", find, 2, 0 }, { "simulate (event)", happen, 1, 0 }, { "simulate (message)", tell, 1, 0 },
     { "keep (event)", keep_event, 1, 0 }, { "keep (message)", keep_message, 1, 0 },
@@ -252,6 +257,22 @@ static void measure_plan(size_t none)
                 for (int heard = NOTHING; heard <= (calls[c].events == 2 ? NOTHING : OTHERS); heard++) measure(&calls[c], none, (enum heard)heard);
 }
 
+/* The next plan at every small one, from the single task on. */
+static void measure_walk(size_t none)
+{
+    struct call *c = calls;
+    uint32_t all = 0;
+    while (c->run != next_plan) c++;
+    do {
+        all++;
+        measure(c, none, NOTHING);
+        if (VULCEDAR_NUMBER(answer) != VULCEDAR_PASSED) break;
+        small_nodes = VULCEDAR_VALUE(answer);
+        memcpy(small, out, 2 * small_nodes);
+    } while (all < 4962);
+    if (all != 4962 || answer != VULCEDAR_LAST_PLAN) printf("stack: small plan %u is refused with %u\n", all, VULCEDAR_NUMBER(answer)), exit(1);
+}
+
 int main(void)
 {
     size_t none = touched(nothing);
@@ -263,6 +284,7 @@ int main(void)
         deep(kind, 3), draw(3, 1, 16), measure_plan(none); /* nine of 17 nodes, 160 in all */
         wide(kind), draw(0, 1, 4), measure_plan(none);     /* 31 of five */
     }
+    measure_walk(none);
     for (size_t c = 0; c < CALLS; c++) {
         printf("%-24s %6zu bytes of %zu\n", calls[c].name, calls[c].most, granted(calls[c].run));
         over += calls[c].most > granted(calls[c].run);

@@ -25,7 +25,7 @@ fn by_table(letter: u8, long: usize, plan: &[u8], c: &[u8], a: &mut [u8], b: &mu
 
 // The call of the line at a place: version, check, check that writes depths, check of a table, guard, rule, step, hear, event or message,
 // central rule, pass, changed answer, way, record, pass's record and record by a table, list of steps, rewriting, renumbering, depth form of a
-// plan, plan of a depth form, repeated template, text. Its result has the number in the lowest byte, then a byte for a site or a guard's rule,
+// plan, plan of a depth form, repeated template, next small plan, text. Its result has the number in the lowest byte, then a byte for a site or a guard's rule,
 // and the value, where there is one, from bit 16 on.
 pub(crate) fn call(
     text: &[u8],
@@ -62,6 +62,7 @@ pub(crate) fn call(
         b'O' => vulcedar::vulcedar_to_depths(plan, a),
         b'F' => vulcedar::vulcedar_from_depths(plan, a),
         b'X' => vulcedar::vulcedar_repeat(plan, node, code, a),
+        b'J' => vulcedar::vulcedar_next_plan(plan, a),
         _ => printed(script::rehearse(c, a)),
     }
 }

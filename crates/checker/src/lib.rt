@@ -1,5 +1,5 @@
 // The check of a plan, as code. What it answers and accepts is specs/Check.antt of the crate plan, its second form specs/Depths.antt. Both forms
-// are linear in the nodes. The two reads at a node ask that there is such a node; no other public function has a `requires`.
+// are linear in the nodes. The two reads at a node and test 4 at a node ask that there is such a node; no other public function has a `requires`.
 ghost use mathlib.Core.Path.{_≡_};
 ghost use Prim.Native.Nat.{_<_};
 ghost use lib.ListN.{length, replicate};
@@ -79,7 +79,8 @@ fn parents_ok(plan: &[u8]) -> bool
     ok
 }
 
-fn under_block(plan: &[u8], v: usize) -> bool
+// Test 4 at a node: its parent can have children.
+pub fn under_block(plan: &[u8], v: usize) -> bool
     requires { ⌜ Ordered (now plan) × (v < size (now plan)) ⌝ }
     ensures { λ r. ⌜ r ≡ underBlock (now (plan .entry)) v ⌝ }
 {

@@ -13,3 +13,5 @@ pub mod Search
 pub mod PutLaws
 pub mod Each
 pub mod Parts
+pub mod SmallestLaws
+pub mod OrderLaws

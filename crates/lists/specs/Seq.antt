@@ -1,7 +1,7 @@
 -- Lists, and tests over them and over the numbers below a bound: common words, which state no rule of their own. Definitions only.
 use mathlib.Core.Bool.{Bool, true, false, _&&_, _||_, cond}
 use mathlib.Core.List.{List, [], _∷_, map}
-use Prim.Native.Nat.{ℕ, zero, suc}
+use Prim.Native.Nat.{ℕ, zero, suc, _+_}
 use lib.Dec.{ltb}
 
 unfoldable pub all {ℓ} : {A : Type ℓ} → (A → Bool) → List A → Bool
@@ -25,6 +25,11 @@ upFrom from (suc count) = from ∷ upFrom (suc from) count
 unfoldable pub allBelow : (ℕ → Bool) → ℕ → Bool
 allBelow f zero = true
 allBelow f (suc n) = allBelow f n && f n
+
+-- f 0 + f 1 + .., n of them
+unfoldable pub sumBelow : (ℕ → ℕ) → ℕ → ℕ
+sumBelow f zero = 0
+sumBelow f (suc n) = sumBelow f n + f n
 
 -- f 0, f 1, .., n of them
 unfoldable pub table : (ℕ → ℕ) → ℕ → List ℕ

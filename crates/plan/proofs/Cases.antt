@@ -5,6 +5,7 @@ use Prim.Native.Nat.{ℕ, zero, suc}
 use Rattle.lists.specs.Seq.{keep, upFrom, allBelow}
 use Rattle.plan.specs.Plan.{kindOf, size, kindByte, kind, parent, childrenBelow, children, childCount, depthWithin, depth}
 use Rattle.plan.specs.Check.{lengthOk, kindOk, parentOk, underBlock, fits, countOk, depthOk, atAll, checkNumber}
+use Rattle.plan.specs.Made.{inFront}
 
 pub record Case : Type 0 where
   pub plan : List ℕ
@@ -56,3 +57,10 @@ cases =
 pub all-right : map (λ k. checkNumber (k .plan)) cases ≡ map (λ k. k .number) cases
 unfolding checkNumber lengthOk atAll kindOk parentOk underBlock fits countOk depthOk kindOf size kindByte kind parent childrenBelow children childCount depthWithin depth keep upFrom allBelow cases case broad nodes chain
 all-right = refl
+
+-- a plan in front of lent bytes: those behind it stay
+pub all-in-front :
+    inFront (1 ∷ 255 ∷ []) (7 ∷ 8 ∷ 9 ∷ 10 ∷ []) ∷ inFront (2 ∷ 255 ∷ 1 ∷ 0 ∷ []) (7 ∷ 8 ∷ 9 ∷ 10 ∷ []) ∷ []
+    ≡ (1 ∷ 255 ∷ 9 ∷ 10 ∷ []) ∷ (2 ∷ 255 ∷ 1 ∷ 0 ∷ []) ∷ []
+unfolding inFront
+all-in-front = refl

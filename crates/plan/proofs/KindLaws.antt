@@ -9,7 +9,7 @@ use borrow.Author.Tests.{ne-eqb, eqb-true, eqb-false}
 use native.Mathlib.Omega.{arith}
 use Rattle.lists.specs.Seq.{upFrom}
 use Rattle.lists.proofs.Between.{between}
-use Rattle.lists.proofs.Logic.{cases, decided, no-bool}
+use Rattle.lists.proofs.Logic.{cases, clash, decided, no-bool}
 use Rattle.plan.specs.Plan.{Kind, task, serial, and, or, xor, contingency, conditional, waiting, kindNumber, isKind, kindOf, kindByte, kind, parent, above, aboveByte}
 
 pub kind-task : (p : List ℕ) (v : ℕ) → kindByte p v ≡ 1 → kind p v ≡ task
@@ -35,6 +35,10 @@ kind-other k h =
 pub kind-block : (k : ℕ) → 2 ≤ k → k ≤ 8 → isKind task (kindOf k) ≡ false
 unfolding isKind kindNumber kindOf upFrom
 kind-block k l h = between (λ j. isKind task (kindOf j)) (λ j. false) 2 7 refl k l (omega arith)
+
+pub block-kind : (p : List ℕ) (v : ℕ) → 2 ≤ kindByte p v → kindByte p v ≤ 8 → kind p v ≡ task → ⊥
+unfolding kind isKind kindNumber
+block-kind p v l h e = clash (isKind task (kind p v)) (ap (isKind task) e) (kind-block (kindByte p v) l h)
 
 -- the kind above, read off its byte
 pub above-byte : (p : List ℕ) (v : ℕ) → above p v ≡ kindOf (aboveByte p v)

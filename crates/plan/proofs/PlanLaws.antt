@@ -2,7 +2,8 @@
 use mathlib.Core.Path.{_≡_, refl, ap}
 use mathlib.Core.Bool.{cond}
 use mathlib.Core.List.{List, [], _∷_, _++_}
-use Prim.Native.Nat.{ℕ, zero, suc, pred, _+_, _<_}
+use Prim.Native.Nat.{ℕ, zero, suc, pred, _+_, _*_, _<_}
+use lib.ListN.{length}
 use lib.Dec.{eqb}
 use borrow.Author.Tests.{eqb-true, eqb-false, eq-eqb, ne-eqb}
 use native.Mathlib.Omega.{arith}
@@ -43,6 +44,11 @@ children-suc p v u l =
     let e : pred (v + 1) ≡ suc (pred v) = omega arith in
     let f : 1 + pred v ≡ v = omega arith in
     rw (e, up-suc 1 (pred v), f) (keep-append (λ c. eqb (parent p c) u) (upFrom 1 (pred v)) (v ∷ []))
+
+-- whole nodes
+pub size-half : (p : List ℕ) (n : ℕ) → length p ≡ 2 * n → size p ≡ n
+unfolding size
+size-half p n e = omega arith
 
 -- the kind is read off the kind byte
 pub kind-byte : (p : List ℕ) (v : ℕ) → kind p v ≡ kindOf (kindByte p v)

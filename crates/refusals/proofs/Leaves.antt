@@ -8,8 +8,9 @@ use borrow.Author.Tests.{ne-eqb, lt-ltb}
 use lib.Dec.{eqb, leb, ltb}
 use lib.ListN.{length, drop, set}
 use Rattle.lists.specs.Seq.{table}
-use Rattle.plan.specs.Check.{fitNumber}
+use Rattle.plan.specs.Check.{checkNumber, fitNumber}
 use Rattle.plan.specs.Plan.{size, depth}
+use Rattle.plan.specs.Made.{Made, made, inFront}
 use Rattle.event.specs.Event.{eventOf}
 use Rattle.event.specs.Site.{Layout, own}
 use Rattle.event.specs.Valid.{invalid}
@@ -20,7 +21,9 @@ use Rattle.trees.specs.Renumber.{Converted, converted, renumberNumber, renumber
 use Rattle.depth_form.specs.Form.{depthForm, formPlan}
 use Rattle.depth_form.specs.Calls.{toDepthsNumber, toDepthsOf, fromDepthsNumber, fromDepthsOf}
 use Rattle.template.specs.Repeat.{repeated}
-use Rattle.template.specs.Call.{Made, made, inFront, repeatNumber, repeatOf}
+use Rattle.template.specs.Call.{repeatNumber, repeatOf}
+use Rattle.small_plans.specs.Order.{nextPlan}
+use Rattle.small_plans.specs.Call.{given, nextOf}
 use Rattle.guard.specs.Guard.{guard}
 use Rattle.guard.specs.Rule.{ruleByte}
 use Rattle.guard.specs.Bytes.{encode}
@@ -78,6 +81,20 @@ unfolding repeatOf
 repeat-leaves p v r b =
     tested (λ (a : Made). a .number) (λ a. (a .out ≡ b) × (a .nodes ≡ 0)) (repeatNumber p v r b) (made (repeatNumber p v r b) 0 b)
     (made 0 (size (repeated p v r)) (inFront (repeated p v r) b)) (refl, refl) (λ e. refl)
+
+given-leaves : (b : List ℕ) (o : Option (List ℕ)) → (given o b .number ≡ 0 → ⊥) → (given o b .out ≡ b) × (given o b .nodes ≡ 0)
+unfolding given
+given-leaves b none = λ n. (refl, refl)
+given-leaves b (some q) =
+    choice (λ (a : Made). (a .number ≡ 0 → ⊥) → (a .out ≡ b) × (a .nodes ≡ 0)) (not (eqb (length b) 10)) (made 7 0 b) (made 0 (size q) (inFront q b))
+    (λ z n. (refl, refl)) (λ z n. absurd (n refl))
+
+pub next-leaves : (p b : List ℕ) → (nextOf p b .number ≡ 0 → ⊥) → (nextOf p b .out ≡ b) × (nextOf p b .nodes ≡ 0)
+unfolding nextOf
+next-leaves p b =
+    choice (λ (a : Made). (a .number ≡ 0 → ⊥) → (a .out ≡ b) × (a .nodes ≡ 0)) (not (eqb (checkNumber p) 0)) (made (checkNumber p) 0 b) _ (λ z n. (refl, refl))
+    (λ z. choice (λ (a : Made). (a .number ≡ 0 → ⊥) → (a .out ≡ b) × (a .nodes ≡ 0)) (not (leb (size p) 5)) (made 27 0 b) _ (λ z n. (refl, refl))
+    (λ z. given-leaves b (nextPlan p)))
 
 pub depths-leave : (p d : List ℕ) → (depthsOf p d .number ≡ 0 → ⊥) → depthsOf p d .depths ≡ d
 unfolding depthsOf

@@ -11,6 +11,7 @@ use Rattle.lists.specs.Seq.{allBelow}
 use Rattle.lists.proofs.Logic.{cases, decided, and-join}
 use Rattle.plan.specs.Plan.{task, kind, size, isKind}
 use Rattle.plan.specs.Check.{Accepted, fitNumber}
+use Rattle.plan.specs.Made.{Made, made}
 use Rattle.plan.proofs.Main.{check-exact, fit-exact}
 use Rattle.event.specs.Event.{eventOf, known, applies}
 use Rattle.event.specs.Site.{Layout, own}
@@ -23,7 +24,9 @@ use Rattle.depth_form.specs.Form.{depthForm, formNumber}
 use Rattle.depth_form.specs.Calls.{toDepthsNumber, toDepthsOf, fromDepthsNumber, fromDepthsOf}
 use Rattle.trees.specs.Tree.{nodeCount}
 use Rattle.template.specs.Repeat.{canMark, repeatedTree}
-use Rattle.template.specs.Call.{Made, made, timesOk, templateNumber, repeatNumber, repeatOf}
+use Rattle.template.specs.Call.{timesOk, templateNumber, repeatNumber, repeatOf}
+use Rattle.small_plans.specs.Order.{nextPlan}
+use Rattle.small_plans.specs.Call.{given, nextOf}
 use Rattle.guard.specs.Guard.{guard, holds, barred}
 use Rattle.guard.specs.Rule.{ruleByte}
 use Rattle.guard.specs.Bytes.{encode}
@@ -101,6 +104,16 @@ module _ (p : List ℕ) (ok : Accepted p) where
   pub repeat-later : (v r : ℕ) (b : List ℕ) → length b ≡ 320 → Later (repeatOf p v r b .number)
   unfolding repeatOf
   repeat-later v r b e = choice (λ (a : Made). Later (a .number)) (not (eqb (repeatNumber p v r b) 0)) (made (repeatNumber p v r b) 0 b) _ (λ z. repeat-number v r b e) (λ z. none-later)
+
+  given-later : (b : List ℕ) → length b ≡ 10 → (o : Option (List ℕ)) → Later (given o b .number)
+  unfolding given
+  given-later b e none = later 26 refl
+  given-later b e (some q) = rw (eq-eqb (length b) 10 e) none-later
+
+  pub next-later : (b : List ℕ) → length b ≡ 10 → Later (nextOf p b .number)
+  unfolding nextOf
+  next-later b e = rw (check-exact p .1 ok)
+      (choice (λ (a : Made). Later (a .number)) (not (leb (size p) 5)) (made 27 0 b) _ (λ z. later 27 refl) (λ z. given-later b e (nextPlan p)))
 
   pub depths-pass : (d : List ℕ) → length d ≡ size p → depthsOf p d .number ≡ 0
   unfolding depthsOf depthsNumber

@@ -9,12 +9,13 @@ use lib.Dec.{eqb}
 use lib.ListN.{length}
 use Rattle.plan.specs.Plan.{size, kindByte, childCount}
 use Rattle.plan.specs.Check.{Accepted}
+use Rattle.plan.specs.Made.{made, inFront}
 use Rattle.checker.proofs.TestLaws.{passed, failed}
 use Rattle.links.specs.Links.{Linked}
 use Rattle.trees.specs.Tree.{treesBelow, nodeCount}
 use Rattle.trees.proofs.RenumberLaws.{below-few}
 use Rattle.template.specs.Repeat.{canRepeat, canMark, repeatedBelow, repeatedTree, repeated}
-use Rattle.template.specs.Call.{made, inFront, timesOk, repeatOf}
+use Rattle.template.specs.Call.{timesOk, repeatOf}
 use Rattle.template.specs.Claim.{Template}
 use Rattle.template.proofs.CountLaws.{repeat-count}
 use Rattle.template.proofs.PlanLaws.{repeat-size}

@@ -1,24 +1,20 @@
 // A template repeated, as code. What the call answers and leaves is specs/Call.antt of the crate template. It is linear in the nodes of the
 // template and of the repeated plan, and a refused call leaves the lent bytes.
+use plan::Made;
 ghost use mathlib.Core.Path.{_≡_};
 ghost use Prim.Native.Nat.{_<_};
 ghost use lib.Dec.{eqb};
 ghost use lib.ListN.{length};
 ghost use Rattle.plan.specs.Plan.{size, childCount};
 ghost use Rattle.plan.specs.Check.{Accepted};
+ghost use Rattle.plan.specs.Made.{made};
 ghost use Rattle.links.specs.Links.{Linked};
 ghost use Rattle.trees.specs.Tree.{treesBelow, nodeCount};
 ghost use Rattle.placing.specs.Place.{Placeable, Placed};
 ghost use Rattle.template.specs.Repeat.{canRepeat, repeatedBelow};
-ghost use Rattle.template.specs.Call.{timesOk, made, repeatOf};
+ghost use Rattle.template.specs.Call.{timesOk, repeatOf};
 ghost use Rattle.template.specs.Claim.{Template};
 ghost use Rattle.repeat.specs.Copies.{Copyable, Copied};
-
-// What a call that writes a plan answers: its number, and how many nodes it wrote.
-pub struct Made {
-    pub number: u8,
-    pub nodes: u8,
-}
 
 fn can_repeat(kind: u8) -> bool
     ensures { λ r. ⌜ r ≡ canRepeat kind ⌝ }

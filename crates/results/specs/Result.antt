@@ -2,7 +2,7 @@
 use mathlib.Core.Path.{_≡_}
 use mathlib.Core.List.{List}
 use Prim.Native.Nat.{ℕ, _+_, _*_}
-use Rattle.template.specs.Call.{Made}
+use Rattle.plan.specs.Made.{Made}
 use Rattle.guard.specs.Rule.{FoundRule}
 use Rattle.writer.specs.declared.Written.{Written}
 use Rattle.writer.specs.Written.{writtenNumber, writtenRule, writtenLength}

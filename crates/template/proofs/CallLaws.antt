@@ -11,10 +11,11 @@ use borrow.Author.Tests.{eqb-true, eqb-false, eq-eqb, ne-eqb, ltb-true, lt-ltb, 
 use Rattle.lists.proofs.Logic.{cases, no-bool, either, and-left, and-right, and-join, test-passed, number-passed}
 use Rattle.plan.specs.Plan.{size, kindByte, children, childCount}
 use Rattle.plan.specs.Check.{fitNumber, Accepted}
+use Rattle.plan.specs.Made.{Made, made, inFront}
 use Rattle.plan.proofs.Main.{fit-exact}
 use Rattle.trees.specs.Tree.{nodeCount}
 use Rattle.template.specs.Repeat.{canRepeat, canMark, repeatedTree, repeated}
-use Rattle.template.specs.Call.{Made, made, inFront, timesOk, templateNumber, repeatNumber, repeatOf}
+use Rattle.template.specs.Call.{timesOk, templateNumber, repeatNumber, repeatOf}
 use Rattle.template.specs.Claim.{Template, AsRepeated, Numbers}
 use Rattle.template.proofs.PlanLaws.{repeat-size, repeat-right, repeat-only}
 

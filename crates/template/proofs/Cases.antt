@@ -7,10 +7,11 @@ use lib.Dec.{eqb}
 use Rattle.lists.specs.Seq.{keep, upFrom, allBelow}
 use Rattle.plan.specs.Plan.{kindOf, size, kindByte, kind, parent, childrenBelow, children, childCount, depthWithin, depth}
 use Rattle.plan.specs.Check.{lengthOk, kindOk, parentOk, underBlock, fits, countOk, depthOk, atAll, checkNumber, fitNumber}
+use Rattle.plan.specs.Made.{made, inFront}
 use Rattle.trees.specs.Tree.{Forest, none, tree, treesOf, belowWithin, treesBelow, nodeCount}
 use Rattle.trees.specs.Numbering.{written, aboveWithin, isAbove, follows, inPreorder}
 use Rattle.template.specs.Repeat.{canRepeat, canMark, beside, times, repeatedWithin, repeatedBelow, repeatedTree, repeated, moved}
-use Rattle.template.specs.Call.{made, inFront, timesOk, templateNumber, repeatNumber, repeatOf}
+use Rattle.template.specs.Call.{timesOk, templateNumber, repeatNumber, repeatOf}
 
 -- serial 0: task 1, and 2 of serial 3 of tasks 4 and 5, task 6
 abbrev day : List ℕ

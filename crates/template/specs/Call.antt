@@ -1,27 +1,14 @@
--- The call that repeats a template (rules S6, S8) as one value: the number, how many nodes were written, and the lent bytes. Definitions only.
+-- The call that repeats a template (rules S6, S8) as one value. Definitions only.
 use mathlib.Core.Bool.{Bool, cond, not, _&&_}
-use mathlib.Core.List.{List, _++_}
+use mathlib.Core.List.{List}
 use Prim.Native.Nat.{ℕ}
 use lib.Dec.{eqb, ltb, leb}
-use lib.ListN.{length, drop}
+use lib.ListN.{length}
 use Rattle.plan.specs.Plan.{size}
 use Rattle.plan.specs.Check.{fitNumber}
+use Rattle.plan.specs.Made.{Made, made, inFront}
 use Rattle.trees.specs.Tree.{nodeCount}
 use Rattle.template.specs.Repeat.{canMark, repeatedTree, repeated}
-
--- S6, S8: a number, 0 where a plan was written; its number of nodes; and the lent bytes
-pub record Made : Type 0 where
-  pub number : ℕ
-  pub nodes : ℕ
-  pub out : List ℕ
-
--- S6, S8: the same, in one line
-abbrev pub made : ℕ → ℕ → List ℕ → Made
-made k n out = record { number = k; nodes = n; out = out }
-
--- S6: the plan q at the front of the lent bytes, and those behind it as they were
-unfoldable pub inFront : List ℕ → List ℕ → List ℕ
-inFront q out = q ++ drop (length q) out
 
 -- S6: how many times there may be
 unfoldable pub timesOk : ℕ → Bool

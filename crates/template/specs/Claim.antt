@@ -9,10 +9,11 @@ use lib.ListN.{length, drop}
 use Rattle.plan.specs.Plan.{size, kindByte, parent, children}
 use Rattle.plan.specs.Check.{Accepted, checkNumber, fitNumber}
 use Rattle.plan.specs.Under.{Under}
+use Rattle.plan.specs.Made.{made}
 use Rattle.trees.specs.Tree.{treesOf, treesBelow, treeOf, nodeCount}
 use Rattle.trees.specs.Numbering.{renumbered, inPreorder}
 use Rattle.template.specs.Repeat.{times, repeatedBelow, repeatedTree, repeated, moved}
-use Rattle.template.specs.Call.{made, repeatOf}
+use Rattle.template.specs.Call.{repeatOf}
 
 -- S1: the plan p with the marked node m
 pub record Template (p : List ℕ) (m : ℕ) : Type 0 where

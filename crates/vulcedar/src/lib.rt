@@ -10,6 +10,7 @@ ghost use Rattle.rewrite.specs.Rewrite.{rewriteOf};
 ghost use Rattle.trees.specs.Renumber.{renumberOf};
 ghost use Rattle.depth_form.specs.Calls.{toDepthsOf, fromDepthsOf};
 ghost use Rattle.template.specs.Call.{repeatOf};
+ghost use Rattle.small_plans.specs.Call.{nextOf};
 ghost use Rattle.checker.specs.Depths.{depthsOf};
 ghost use Rattle.guard.specs.Rule.{ruleAnswer};
 ghost use Rattle.writer.specs.Written.{writeOf};
@@ -36,7 +37,7 @@ use journal::Entry;
 pub extern "C" fn vulcedar_version() -> u32
     ensures { λ r. ⌜ r ≡ version ⌝ }
 {
-    67328
+    67584
 }
 
 #[no_mangle]
@@ -83,8 +84,17 @@ pub extern "C" fn vulcedar_repeat(plan: &[u8], node: u32, count: u32, out: &mut 
     ensures { λ r. ⌜ r ≡ ofMade (repeatOf (now (plan .entry)) node count (now (out .entry))) ⌝ }
     ensures { λ r. ⌜ now (out .exit) ≡ repeatOf (now (plan .entry)) node count (now (out .entry)) .out ⌝ }
 {
-    let r = repeat::repeat(plan, node, count, out);
-    results::with_value(r.number, 0, r.nodes)
+    let repeated = repeat::repeat(plan, node, count, out);
+    results::with_value(repeated.number, 0, repeated.nodes)
+}
+
+#[no_mangle]
+pub extern "C" fn vulcedar_next_plan(plan: &[u8], out: &mut [u8]) -> u32
+    ensures { λ r. ⌜ r ≡ ofMade (nextOf (now (plan .entry)) (now (out .entry))) ⌝ }
+    ensures { λ r. ⌜ now (out .exit) ≡ nextOf (now (plan .entry)) (now (out .entry)) .out ⌝ }
+{
+    let next = next_plan::next_plan(plan, out);
+    results::with_value(next.number, 0, next.nodes)
 }
 
 #[no_mangle]

@@ -18,11 +18,11 @@ use Rattle.plan.specs.Plan.{kindNumber, isKind, kindOf, size, kindByte, kind, p
 use Rattle.plan.specs.Check.{lengthOk, kindOk, parentOk, underBlock, fits, countOk, depthOk, atAll, Accepted, checkNumber, fitNumber}
 use Rattle.pass.specs.Pass.{goesBy, goes, oneOrTwo, badAnswer, badPick, closes, goodMark, childMark, skip, note, ending, endOf, nothing, unwalked, childSettled, meetBy, meet, walk, close, settleIf, settleBy, settle, numberOf, rootMark, passOf, pass}
 use Rattle.pass_nodes.specs.Nodes.{passMark}
-use Rattle.way.specs.Smallest.{Less, here, there, behind, orElse, firstBelow, smallest}
+use Rattle.lists.specs.Smallest.{Less, here, there, behind, orElse, firstBelow, smallest}
 use Rattle.way.specs.Way.{canWant, leads, way, WayResult, wayResult, foundInto, wayInto}
 use Rattle.way.specs.Can.{stops, worksBy, breaksBy, canBy, canWithin, canAt, fitsOf, allowsOf, openAt}
 use Rattle.way.proofs.CallLaws.{target-told, fit-told, into-found}
-use Rattle.way.proofs.OrderLaws.{less-apart}
+use Rattle.lists.proofs.OrderLaws.{less-apart}
 use Rattle.way.proofs.Greedy.{Asked, Chosen, chosen-none, chosen-turn, chosen-all, way-empty}
 
 -- a call with the answers lent: its number, and the way where it passes

@@ -17,10 +17,10 @@ use Rattle.plan.specs.Check.{Accepted}
 use Rattle.pass.specs.Pass.{pass}
 use Rattle.pass_nodes.specs.Nodes.{passMark}
 use Rattle.lists.specs.Bytes.{Bytes}
-use Rattle.way.specs.Smallest.{smallest}
+use Rattle.lists.specs.Smallest.{smallest, isFound}
 use Rattle.way.specs.Way.{leads}
 use Rattle.way.specs.Claim.{LeadsTo}
-use Rattle.way.proofs.SmallestLaws.{isFound, found-least, found-some}
+use Rattle.lists.proofs.SmallestLaws.{found-least, found-some}
 use Rattle.way.specs.Can.{canAt, fitsOf, allowsOf, openAt}
 use Rattle.way.proofs.Possible.{able-root, answers, answers-long, answers-right, answers-end, accepted, marked}
 

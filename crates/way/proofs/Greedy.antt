@@ -14,9 +14,9 @@ use native.Mathlib.Numerals.{add-one}
 use Rattle.lists.proofs.Logic.{cases, decided, clash}
 use Rattle.plan.specs.Plan.{size}
 use Rattle.plan.specs.Check.{Accepted}
-use Rattle.way.specs.Smallest.{behind, smallest}
+use Rattle.lists.specs.Smallest.{behind, smallest, isFound}
 use Rattle.way.specs.Way.{leads, way}
-use Rattle.way.proofs.SmallestLaws.{isFound, is-none, smallest-step, smallest-none}
+use Rattle.lists.proofs.SmallestLaws.{is-none, smallest-step, smallest-none}
 use Rattle.way.specs.Can.{openAt}
 use Rattle.way.proofs.Front.{open-found}
 

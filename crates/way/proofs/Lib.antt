@@ -1,5 +1,4 @@
 -- Laws that the proofs here cite.
-pub mod SmallestLaws
 pub mod Choices
 pub mod ChoiceLaws
 pub mod AlongLaws

@@ -18,13 +18,14 @@ use Rattle.plan.proofs.FitLaws.{fit-few}
 use Rattle.pass.specs.Pass.{pass}
 use Rattle.pass_nodes.specs.Nodes.{passMark, Read}
 use Rattle.pass_nodes.proofs.Main.{unread-free}
-use Rattle.way.specs.Smallest.{Less}
+use Rattle.lists.specs.Smallest.{Less}
 use Rattle.way.specs.Way.{canWant, leads, way, wayResult, foundInto, wayInto}
 use Rattle.way.specs.Claim.{Target, LeadsTo, IsWay, WayRight, WayPasses, WayThere, WayNumbers, WayOrNone, NoWay, OneWay, EveryNode}
-use Rattle.way.proofs.SmallestLaws.{found-least, no-list}
+use Rattle.lists.proofs.SmallestLaws.{found-least, no-list}
 use Rattle.way.proofs.Front.{leads-told, leads-by}
 use Rattle.way.proofs.Greedy.{open-way}
-use Rattle.way.proofs.OrderLaws.{less-zeroed, less-apart}
+use Rattle.lists.proofs.OrderLaws.{less-apart}
+use Rattle.way.proofs.OrderLaws.{less-zeroed}
 use Rattle.way.proofs.EveryLaws.{every-open}
 use Rattle.way.proofs.CallLaws.{target-told, target-by, into-lent, fit-told, into-node, into-target, into-found}
 

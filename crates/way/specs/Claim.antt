@@ -10,7 +10,7 @@ use Rattle.plan.specs.Plan.{size}
 use Rattle.plan.specs.Check.{Accepted, fitNumber}
 use Rattle.pass.specs.Pass.{pass}
 use Rattle.pass_nodes.specs.Nodes.{passMark, Read}
-use Rattle.way.specs.Smallest.{Less}
+use Rattle.lists.specs.Smallest.{Less}
 use Rattle.way.specs.Way.{wayResult, wayInto}
 
 -- Q1: mark m for node v of the plan, and end e

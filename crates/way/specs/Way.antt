@@ -9,7 +9,7 @@ use Rattle.plan.specs.Plan.{size}
 use Rattle.plan.specs.Check.{fitNumber}
 use Rattle.pass.specs.Pass.{pass}
 use Rattle.pass_nodes.specs.Nodes.{passMark}
-use Rattle.way.specs.Smallest.{smallest}
+use Rattle.lists.specs.Smallest.{smallest}
 
 -- Q1: m may be wanted for a node, and e for the root
 unfoldable pub canWant : ℕ → ℕ → Bool

@@ -1,15 +1,16 @@
 //! Measures each exported function of the C archive against the reference,
 //! a step at a desk against one at a site, and a whole job by simulate: same
-//! inputs, in turn, medians of many rounds. At the end the slowest ways of large
-//! plans.
+//! inputs, in turn, medians of many rounds. Small plans are all handed in, and the one
+//! whose next takes longest apart. At the end the slowest ways of large plans.
 
 mod fixture;
 mod job;
 mod measure;
 mod slowest;
+mod walk;
 mod work;
 
-use differential::{Implementation, Reference};
+use differential::{Implementation, Reference, plans};
 use fixture::Fixture;
 use job::Script;
 use measure::{Medians, in_turn};
@@ -40,9 +41,9 @@ struct Options {
     own_copy: bool,
     /// How often each side is measured.
     rounds: usize,
-    /// Only this function; "job" is the whole job, "typing" what an editor
-    /// waits for, "desks" a step at a desk beside one at a site, "slowest" the
-    /// slowest ways.
+    /// Only this function; "next_plan" is the walk over all small plans, "job" the
+    /// whole job, "typing" what an editor waits for, "desks" a step at a desk
+    /// beside one at a site, "slowest" the slowest ways.
     only: Option<String>,
 }
 
@@ -95,6 +96,9 @@ fn compare(name: &str, subject: &mut impl Implementation, options: &Options) -> 
             print_line(function, nodes, &medians);
         }
     }
+    if options.wants("next_plan") {
+        compare_walk(name, subject, options.rounds)?;
+    }
     if options.wants("typing") {
         compare_typing(subject, options.rounds)?;
     }
@@ -123,6 +127,23 @@ fn compare_function(
     }
     let calls = ours.calls();
     Ok(in_turn(rounds, calls, || theirs.run(subject), || ours.run(&mut Reference)))
+}
+
+/// The walk over all small plans, and the step of it that takes the subject longest.
+fn compare_walk(name: &str, subject: &mut impl Implementation, rounds: usize) -> Result<(), String> {
+    if walk::run(subject) != walk::run(&mut Reference) {
+        return Err("next_plan answers differently; run the differential test".to_string());
+    }
+    let walks = rounds.div_ceil(10);
+    let all = in_turn(walks, walk::calls(), || walk::run(subject), || walk::run(&mut Reference));
+    print_line("next_plan", plans::MOST_SMALL_BYTES / 2, &all);
+    let plan = walk::slowest(subject);
+    let one = in_turn(rounds, 1, || walk::step(subject, plan), || walk::step(&mut Reference, plan));
+    print_line("slowest next", plan.len() / 2, &one);
+    let shown: String = plan.iter().map(|byte| format!("{byte:02x}")).collect();
+    let place = 1 + plans::small().iter().take_while(|other| *other != plan).count();
+    println!("slowest of all {} small plans for the {name}: {shown}, number {place}", walk::calls());
+    Ok(())
 }
 
 /// The check's time a node in growing plans, and the time of one typed key.

@@ -36,6 +36,10 @@ impl Implementation for Archive {
         vulcedar::repeat(plan, node, count, out)
     }
 
+    fn next_plan(&mut self, plan: &[u8], out: &mut [u8]) -> u32 {
+        vulcedar::next_plan(plan, out)
+    }
+
     fn check_depths(&mut self, plan: &[u8], depths: &mut [u8]) -> u32 {
         vulcedar::check_depths(plan, depths)
     }

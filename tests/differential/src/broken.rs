@@ -14,6 +14,7 @@ mod forms;
 mod impact;
 mod points;
 mod repeat;
+mod small;
 mod way;
 
 /// A mistake: those the document warns of, its worthless versions, and slips
@@ -701,11 +702,117 @@ pub enum Mistake {
     FirstBlockMarked,
     /// What stands behind the marked block is left out.
     BehindLeftOut,
+    /// Small plans come in the order of their bytes, whatever their number of nodes.
+    BytesAlone,
+    /// Small plans of one size come in falling order of their bytes.
+    BytesFalling,
+    /// Small plans of one size come in the order of their last bytes.
+    BytesFromTheEnd,
+    /// Small plans of one size come in the order of their kinds, then of their parents.
+    OrderByKinds,
+    /// Small plans of one size come in the order of their parents, then of their kinds.
+    OrderByParents,
+    /// Small plans come in falling number of nodes.
+    SizesFalling,
+    /// One small plan does not come.
+    OnePlanLeftOut,
+    /// The first plan of each size does not come, but for the very first.
+    FirstOfASizeLeftOut,
+    /// The last plan of each size does not come, but for the very last.
+    LastOfASizeLeftOut,
+    /// No small plan with an xor comes.
+    SmallWithoutXor,
+    /// No small plan with a conditional comes.
+    SmallWithoutConditional,
+    /// No small plan with a waiting and comes.
+    SmallWithoutWaitingAnd,
+    /// Only small plans in the fixed numbering come.
+    FixedNumberingsAlone,
+    /// Only small plans whose parents never fall come.
+    LevelByLevelAlone,
+    /// Small plans of five levels do not come.
+    FiveLevelsLeftOut,
+    /// Small plans with four children below one block do not come.
+    FourChildrenLeftOut,
+    /// Small plans with two conditionals do not come.
+    TwoConditionalsLeftOut,
+    /// Small plans come in which a conditional has three children.
+    ThreeBranchesCome,
+    /// Small plans come in which a conditional has one child.
+    OneBranchComes,
+    /// Blocks without children come after the single task.
+    LoneBlocksCome,
+    /// What comes is the plan behind the next.
+    SkipsEverySecond,
+    /// What comes is the plan that was handed in.
+    StaysWhereItIs,
+    /// What comes is the plan before, but for the first.
+    GoesBack,
+    /// What comes is the plan behind the renumbered one.
+    NextOfTheRenumbered,
+    /// Behind the last small plan comes the first.
+    WrapsAround,
+    /// Behind the last small plan comes the last again.
+    StaysAtTheLast,
+    /// The last small plan is 27.
+    LastIs27,
+    /// The last plan of each size is 26, but for the very first.
+    LastOfASizeIs26,
+    /// A plan of five nodes that begins as the last one does is 26.
+    LastByItsFront,
+    /// A plan that is not small is 26.
+    NotSmallIs26,
+    /// A plan that is not small is 1.
+    NotSmallIs1,
+    /// A plan of six nodes counts as small: it is 26.
+    SixNodesAre26,
+    /// Small plans have at most four nodes.
+    FourNodesAtMost,
+    /// For a next plan 7 is found before what is wrong with the plan.
+    NextLengthFirst,
+    /// 7 comes before 26.
+    LengthBeforeLast,
+    /// 7 comes before 27.
+    LengthBeforeNotSmall,
+    /// 27 comes before 1: for more than ten bytes.
+    NotSmallBeforeLength,
+    /// 27 comes before 2.
+    NotSmallBeforeKinds,
+    /// 27 comes before 6.
+    NotSmallBeforeDepth,
+    /// A plan of two to ten bytes is not looked at for 2 to 5.
+    UncheckedPlansGoOn,
+    /// A next plan is written into any bytes that it fits into.
+    NextIntoEnough,
+    /// A next plan is written into more than ten bytes.
+    NextIntoMore,
+    /// Just as many bytes must be lent as the next plan has.
+    NextIntoItsLength,
+    /// The bytes behind a next plan become 0.
+    NextClearsTheRest,
+    /// A next plan is written to the back of the lent bytes.
+    NextAtTheBack,
+    /// Of a next plan only what differs from the plan before is written.
+    OnlyChangesWritten,
+    /// The root of a next plan has 0 for a parent.
+    NextRootBelowZero,
+    /// Where no plan comes next, the first one is written.
+    RefusedNextWrites,
+    /// A next plan is written as far as it goes, and then it is 7.
+    ShortNextWrites,
+    /// A next plan comes without its number of nodes.
+    NextNodesLeftOut,
+    /// A next plan comes with its number of bytes.
+    NextBytesForNodes,
+    /// A next plan comes with the number of nodes of the one before.
+    NodesOfThePlanBefore,
+    /// A next plan comes with its number of nodes in the place of a site.
+    NextNodesAsASite,
 }
 
 impl Mistake {
     /// All mistakes; the first is number 1.
-    pub const ALL: [Mistake; 337] = [
+    pub const ALL: [Mistake; 390] = [
         Mistake::CommitUnlessAbortHeard,
         Mistake::PickAtTheChild,
         Mistake::TurnedDownStillRuns,
@@ -1043,6 +1150,59 @@ impl Mistake {
         Mistake::BlockRepeated,
         Mistake::FirstBlockMarked,
         Mistake::BehindLeftOut,
+        Mistake::BytesAlone,
+        Mistake::BytesFalling,
+        Mistake::BytesFromTheEnd,
+        Mistake::OrderByKinds,
+        Mistake::OrderByParents,
+        Mistake::SizesFalling,
+        Mistake::OnePlanLeftOut,
+        Mistake::FirstOfASizeLeftOut,
+        Mistake::LastOfASizeLeftOut,
+        Mistake::SmallWithoutXor,
+        Mistake::SmallWithoutConditional,
+        Mistake::SmallWithoutWaitingAnd,
+        Mistake::FixedNumberingsAlone,
+        Mistake::LevelByLevelAlone,
+        Mistake::FiveLevelsLeftOut,
+        Mistake::FourChildrenLeftOut,
+        Mistake::TwoConditionalsLeftOut,
+        Mistake::ThreeBranchesCome,
+        Mistake::OneBranchComes,
+        Mistake::LoneBlocksCome,
+        Mistake::SkipsEverySecond,
+        Mistake::StaysWhereItIs,
+        Mistake::GoesBack,
+        Mistake::NextOfTheRenumbered,
+        Mistake::WrapsAround,
+        Mistake::StaysAtTheLast,
+        Mistake::LastIs27,
+        Mistake::LastOfASizeIs26,
+        Mistake::LastByItsFront,
+        Mistake::NotSmallIs26,
+        Mistake::NotSmallIs1,
+        Mistake::SixNodesAre26,
+        Mistake::FourNodesAtMost,
+        Mistake::NextLengthFirst,
+        Mistake::LengthBeforeLast,
+        Mistake::LengthBeforeNotSmall,
+        Mistake::NotSmallBeforeLength,
+        Mistake::NotSmallBeforeKinds,
+        Mistake::NotSmallBeforeDepth,
+        Mistake::UncheckedPlansGoOn,
+        Mistake::NextIntoEnough,
+        Mistake::NextIntoMore,
+        Mistake::NextIntoItsLength,
+        Mistake::NextClearsTheRest,
+        Mistake::NextAtTheBack,
+        Mistake::OnlyChangesWritten,
+        Mistake::NextRootBelowZero,
+        Mistake::RefusedNextWrites,
+        Mistake::ShortNextWrites,
+        Mistake::NextNodesLeftOut,
+        Mistake::NextBytesForNodes,
+        Mistake::NodesOfThePlanBefore,
+        Mistake::NextNodesAsASite,
     ];
 }
 
@@ -1052,12 +1212,15 @@ pub struct Broken {
     honest: Reference,
     has_passed: bool,
     last_table: [u8; 12],
+    /// What is taken for all small plans.
+    small: small::List,
 }
 
 impl Broken {
     /// A copy with this mistake.
     pub fn new(mistake: Mistake) -> Broken {
-        Broken { mistake, honest: Reference, has_passed: false, last_table: tables::COMMON }
+        let small = small::List::new(mistake);
+        Broken { mistake, honest: Reference, has_passed: false, last_table: tables::COMMON, small }
     }
 
     fn cut(&self, number: u32) -> u32 {
@@ -1619,6 +1782,10 @@ impl Implementation for Broken {
 
     fn repeat(&mut self, plan: &[u8], node: u32, count: u32, out: &mut [u8]) -> u32 {
         repeat::repeat(self.mistake, plan, node, count, out)
+    }
+
+    fn next_plan(&mut self, plan: &[u8], out: &mut [u8]) -> u32 {
+        self.small.next_plan(plan, out)
     }
 
     fn check_depths(&mut self, plan: &[u8], depths: &mut [u8]) -> u32 {

@@ -15,6 +15,7 @@ mod forms;
 mod impact;
 mod points;
 mod repeat;
+mod small;
 mod way;
 
 pub use desks::{damaged_plans_with_desks, lengths_with_desks, own_desks};
@@ -22,6 +23,7 @@ pub use forms::{every_form, forms};
 pub use impact::{every_small_plan, impacts};
 pub use points::points;
 pub use repeat::{every_template, repeats};
+pub use small::{next_plans, whole_walk};
 pub use way::{every_target, ways};
 
 /// More than the longest guard.
@@ -40,6 +42,7 @@ pub fn damaged_plans<S: Implementation, R: Implementation>(trial: &mut Trial<S, 
         let nodes = plan.len() / 2;
         let (code, node) = event(random, nodes);
         trial.repeat(&plan, node, code, &random.bytes(320));
+        trial.next_plan(&plan, &random.bytes(10));
         let site = if random.chance(50) { HAPPENS } else { any_node(random, nodes) };
         let (one, two) = (length(random, nodes), length(random, nodes));
         let (one, two) = (random.bytes(one), random.bytes(two));

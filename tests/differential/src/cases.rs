@@ -12,6 +12,7 @@ mod forms;
 mod impact;
 mod points;
 mod repeat;
+mod small;
 mod way;
 
 /// Plan P of document 01.
@@ -19,6 +20,20 @@ const P: [u8; 12] = [SERIAL, 0xff, TASK, 0, XOR, 0, TASK, 2, TASK, 2, TASK, 0];
 
 /// More than any text's lines.
 const LONG_OUT: usize = 16_400;
+
+/// What stands in lent bytes before.
+const LEFT: u8 = 0xa5;
+
+/// Whether a call that writes a plan to the front of lent bytes answers and leaves what
+/// it must: the plan with its number of nodes, or the refusal; all other bytes are left.
+fn front_is(result: u32, out: &[u8], expected: Result<&[u8], u32>) -> bool {
+    let (value, written) = match expected {
+        Ok(written) => ((written.len() as u32 / 2) << 16, written),
+        Err(number) => (number, &[][..]),
+    };
+    let rest_stays = out.iter().skip(written.len()).all(|&byte| byte == LEFT);
+    result == value && out.starts_with(written) && rest_stays
+}
 
 /// Runs all of them.
 pub fn run<S: Implementation, R: Implementation>(trial: &mut Trial<S, R>) {
@@ -35,12 +50,13 @@ pub fn run<S: Implementation, R: Implementation>(trial: &mut Trial<S, R>) {
     way::run(trial);
     forms::run(trial);
     repeat::run(trial);
+    small::run(trial);
 }
 
-/// Version 1.7.0.
+/// Version 1.8.0.
 fn version<S: Implementation, R: Implementation>(trial: &mut Trial<S, R>) {
     let version = trial.version();
-    trial.tally.compare(version == 0x01_0700, || format!("the version is {version:08x}"));
+    trial.tally.compare(version == 0x01_0800, || format!("the version is {version:08x}"));
 }
 
 /// A guard: the event, its rule, and what must be written.

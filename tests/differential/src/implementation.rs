@@ -50,6 +50,8 @@ pub trait Implementation {
     /// Writes a plan in which the subtree of a marked block's only child stands so
     /// many times.
     fn repeat(&mut self, plan: &[u8], node: u32, count: u32, out: &mut [u8]) -> u32;
+    /// Writes the small plan that comes next.
+    fn next_plan(&mut self, plan: &[u8], out: &mut [u8]) -> u32;
     /// Checks a plan and writes every node's depth.
     fn check_depths(&mut self, plan: &[u8], depths: &mut [u8]) -> u32;
     /// Writes a guard.
@@ -210,6 +212,10 @@ impl Implementation for Reference {
 
     fn repeat(&mut self, plan: &[u8], node: u32, count: u32, out: &mut [u8]) -> u32 {
         exported::repeat(plan, node, count, out)
+    }
+
+    fn next_plan(&mut self, plan: &[u8], out: &mut [u8]) -> u32 {
+        exported::next_plan(plan, out)
     }
 
     fn check_depths(&mut self, plan: &[u8], depths: &mut [u8]) -> u32 {

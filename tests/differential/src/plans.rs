@@ -5,10 +5,12 @@ use crate::form::HIGHEST_DESK;
 use crate::random::Random;
 
 mod forms;
+mod small;
 mod templates;
 
 pub use forms::{any_numbering, any_order, are_same_tree, deep, fixed, has_tree, is_fixed, mixed_numbering};
 pub use forms::{damaged_form, lines};
+pub use small::{MOST_SMALL_BYTES, after, near_small, small, with_one_more};
 pub use templates::{is_template, limit_template, repeated, template};
 
 /// The most nodes, children and levels a plan may have.

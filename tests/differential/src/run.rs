@@ -27,6 +27,11 @@ pub const TARGETS_PART: u64 = ONLY_CHILD_PART + 3;
 pub const SMALL_FORMS_PART: u64 = ONLY_CHILD_PART + 4;
 /// The part with every template among the small plans.
 pub const SMALL_TEMPLATES_PART: u64 = ONLY_CHILD_PART + 5;
+/// The part with all small plans, one after another.
+pub const WALK_PART: u64 = ONLY_CHILD_PART + 6;
+/// The place of the parts in which small plans come one after another, behind a
+/// simulation.
+pub const NEXT_PLANS_PART: u64 = 15;
 /// The place of the parts in which plans are rewritten, renumbered and brought
 /// into depth form.
 pub const FORMS_PART: u64 = 22;
@@ -56,6 +61,16 @@ pub const DESK_JOBS_PART: u64 = 37;
 pub const DESK_MOVES_PART: u64 = 38;
 /// The place of the parts with points, for plans with desks.
 pub const DESK_POINTS_PART: u64 = 39;
+/// The parts that are the same with every seed.
+const FIXED_PARTS: [u64; 7] = [
+    ONLY_CHILD_PART,
+    CASES_PART,
+    SMALL_PLANS_PART,
+    TARGETS_PART,
+    SMALL_FORMS_PART,
+    SMALL_TEMPLATES_PART,
+    WALK_PART,
+];
 /// Where the parts with texts begin to be numbered.
 const FIRST_TEXT_PART: u64 = 1 << 40;
 
@@ -99,9 +114,7 @@ pub fn run_against(subject: impl Implementation, reference: impl Implementation,
         run_part(&mut trial, options.seed, part);
         part += 1;
     }
-    let fixed =
-        [ONLY_CHILD_PART, CASES_PART, SMALL_PLANS_PART, TARGETS_PART, SMALL_FORMS_PART, SMALL_TEMPLATES_PART];
-    for part in fixed {
+    for part in FIXED_PARTS {
         if trial.tally.differences() < options.enough {
             run_part(&mut trial, options.seed, part);
         }
@@ -138,6 +151,9 @@ fn run_part<S: Implementation, R: Implementation>(trial: &mut Trial<S, R>, seed:
     if part == SMALL_TEMPLATES_PART {
         return calls::every_template(trial);
     }
+    if part == WALK_PART {
+        return calls::whole_walk(trial);
+    }
     let plan = if part % (4 * TURN) == 47 { large_plan(random) } else { any_plan(random) };
     let place = part % TURN;
     if place >= DESKS_PART {
@@ -165,7 +181,11 @@ fn run_part<S: Implementation, R: Implementation>(trial: &mut Trial<S, R>, seed:
         WAYS_PART => calls::ways(trial, random, &plan),
         7 => job::simulate(trial, random, &plan),
         8 | 9 => jobs(trial, random, 20, 60, 1),
-        10..=15 => jobs(trial, random, 8, 20, 1),
+        NEXT_PLANS_PART => {
+            jobs(trial, random, 8, 20, 1);
+            calls::next_plans(trial, random, &plan);
+        }
+        10..=14 => jobs(trial, random, 8, 20, 1),
         TEMPLATES_PART.. => {
             jobs(trial, random, 1, 8, 6);
             calls::repeats(trial, random, &plan);

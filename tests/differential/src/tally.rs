@@ -20,6 +20,8 @@ pub enum Function {
     FromDepths,
     /// `vulcedar_repeat`
     Repeat,
+    /// `vulcedar_next_plan`
+    NextPlan,
     /// `vulcedar_check_depths`
     CheckDepths,
     /// `vulcedar_guard`
@@ -86,7 +88,7 @@ pub enum Function {
 }
 
 /// How many functions there are.
-const FUNCTIONS: usize = 37;
+const FUNCTIONS: usize = 38;
 /// One more than the highest number; 0 is passed.
 const NUMBERS: usize = 31;
 
@@ -99,6 +101,7 @@ impl Function {
         Function::ToDepths,
         Function::FromDepths,
         Function::Repeat,
+        Function::NextPlan,
         Function::CheckDepths,
         Function::Guard,
         Function::Rule,
@@ -141,6 +144,7 @@ impl Function {
             Function::ToDepths => "to_depths",
             Function::FromDepths => "from_depths",
             Function::Repeat => "repeat",
+            Function::NextPlan => "next_plan",
             Function::CheckDepths => "depths",
             Function::Guard => "guard",
             Function::Rule => "rule",
@@ -196,6 +200,7 @@ impl Function {
             Function::ToDepths => &[0, 1, 2, 3, 4, 5, 6, 7, 18],
             Function::FromDepths => &[0, 1, 2, 4, 5, 6, 7, 17],
             Function::Repeat => &[0, 1, 2, 3, 4, 5, 6, 7, 8, 23, 24, 25],
+            Function::NextPlan => &[0, 1, 2, 3, 4, 5, 6, 7, 26, 27],
             Function::RecordBy => &[0, 1, 2, 3, 4, 5, 6, 7, 21],
             Function::CheckTable => &[0, 21],
             Function::PassRecord => &[0, 1, 2, 3, 4, 5, 6, 7, 13, 14, 21],
@@ -294,6 +299,12 @@ pub struct Jobs {
     pub just_full: u64,
     /// Templates that would have come to one node more than that.
     pub one_too_many: u64,
+    /// Small plans that came next.
+    pub next_plans: u64,
+    /// Of these, the first of their size.
+    pub of_new_size: u64,
+    /// Walks over all small plans, from what was written each time.
+    pub walks: u64,
 }
 
 /// A count for each rule byte.
@@ -481,6 +492,11 @@ impl fmt::Display for Tally {
             out,
             "templates: {} repeated, {} of these to a full plan; {} would have one node too many",
             jobs.repeated, jobs.just_full, jobs.one_too_many
+        )?;
+        writeln!(
+            out,
+            "small plans: {} came next, {} of these the first of their size; walks over all of them: {}",
+            jobs.next_plans, jobs.of_new_size, jobs.walks
         )?;
         writeln!(out, "rules of passed events: {} different", self.rules())?;
         writeln!(out, "texts: {}", self.texts)?;

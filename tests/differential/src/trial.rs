@@ -14,6 +14,7 @@ mod forms;
 mod impact;
 mod points;
 mod repeat;
+mod small;
 mod way;
 
 pub use way::without_unread;

@@ -8,8 +8,8 @@ use differential::run::{DESK_JOBS_PART, DESK_MOVES_PART, DESK_POINTS_PART, ONE_D
 use differential::run::{
     FORMS_PART, IMPACT_PART, SMALL_FORMS_PART, SMALL_PLANS_PART, TARGETS_PART, WAYS_PART,
 };
+use differential::run::{NEXT_PLANS_PART, SMALL_TEMPLATES_PART, TEMPLATES_PART, WALK_PART};
 use differential::run::{Options, run, run_against};
-use differential::run::{SMALL_TEMPLATES_PART, TEMPLATES_PART};
 use differential::tally::Tally;
 
 /// The mistakes of the calls with points.
@@ -43,14 +43,21 @@ fn of_forms() -> impl Iterator<Item = Mistake> {
     before_templates.skip_while(|&mistake| mistake != Mistake::ChildrenFalling)
 }
 
-/// The mistakes where a template is repeated; they stand at the end.
+/// The mistakes where a template is repeated.
 fn of_templates() -> impl Iterator<Item = Mistake> {
-    Mistake::ALL.into_iter().skip_while(|&mistake| mistake != Mistake::SerialsRepeated)
+    let before_small = Mistake::ALL.into_iter().take_while(|&mistake| mistake != Mistake::BytesAlone);
+    before_small.skip_while(|&mistake| mistake != Mistake::SerialsRepeated)
+}
+
+/// The mistakes where a small plan comes next; they stand at the end.
+fn of_small_plans() -> impl Iterator<Item = Mistake> {
+    Mistake::ALL.into_iter().skip_while(|&mistake| mistake != Mistake::BytesAlone)
 }
 
 /// The mistakes of the later calls, which have parts of their own.
 fn of_later_calls() -> impl Iterator<Item = Mistake> {
-    of_points().chain(of_desks()).chain(of_impact()).chain(of_ways()).chain(of_forms()).chain(of_templates())
+    let before_forms = of_points().chain(of_desks()).chain(of_impact()).chain(of_ways());
+    before_forms.chain(of_forms()).chain(of_templates()).chain(of_small_plans())
 }
 
 /// These parts find nothing between two copies of the reference, in each of
@@ -98,6 +105,8 @@ fn two_copies_of_the_reference_agree() {
     assert!(tally.jobs.accepted_forms > 5000, "{}", tally.jobs.accepted_forms);
     assert!(tally.jobs.repeated > 10_000, "{}", tally.jobs.repeated);
     assert!(tally.jobs.just_full > 50 && tally.jobs.one_too_many > 50, "{}", tally.jobs.just_full);
+    assert!(tally.jobs.next_plans > 10_000 && tally.jobs.of_new_size > 50, "{}", tally.jobs.next_plans);
+    assert_eq!(tally.jobs.walks, 1);
 }
 
 #[test]
@@ -210,7 +219,7 @@ fn a_mistake_on_both_sides_is_found() {
 fn cases_have_their_answers() {
     let options = Options { only: Some(CASES_PART), ..Options::default() };
     let tally = run(Reference, options);
-    assert_eq!((tally.comparisons(), tally.differences()), (1008, 0), "{:#?}", tally.described());
+    assert_eq!((tally.comparisons(), tally.differences()), (1250, 0), "{:#?}", tally.described());
     let mistakes = [
         Mistake::VersionInTheLowestByte,
         Mistake::VersionOneHigher,
@@ -580,6 +589,30 @@ fn every_small_template_is_tried() {
         Mistake::RefusedRepeatWrites,
     ];
     for mistake in of_templates().filter(|mistake| !not_tried.contains(mistake)) {
+        let tally = run_against(Broken::new(mistake), Broken::new(mistake), options);
+        assert_ne!(tally.differences(), 0, "{mistake:?} on both sides is not found");
+    }
+}
+
+/// Small plans alone find what is wrong with the next one, even if both sides do it: by
+/// the list of all of them.
+#[test]
+fn next_plans_are_held_against_the_list() {
+    let mistakes: Vec<Mistake> = of_small_plans().collect();
+    parts_find([NEXT_PLANS_PART, 20], 28, |tally| tally.jobs.next_plans, &mistakes);
+}
+
+/// All small plans find these too, even if both sides make them. What they don't try are
+/// larger plans that are refused.
+#[test]
+fn every_small_plan_comes_once() {
+    let options = Options { only: Some(WALK_PART), enough: 1, ..Options::default() };
+    let tally = run(Reference, options);
+    assert_eq!(tally.differences(), 0, "{:#?}", tally.described());
+    assert_eq!((tally.comparisons(), tally.jobs.walks), (167_785, 1));
+    let not_tried =
+        [Mistake::NotSmallBeforeLength, Mistake::NotSmallBeforeKinds, Mistake::NotSmallBeforeDepth];
+    for mistake in of_small_plans().filter(|mistake| !not_tried.contains(mistake)) {
         let tally = run_against(Broken::new(mistake), Broken::new(mistake), options);
         assert_ne!(tally.differences(), 0, "{mistake:?} on both sides is not found");
     }

@@ -16,7 +16,7 @@ use crate::site::Verdict;
 use crate::table::Table;
 use crate::way as ways;
 use crate::{central as central_rule, desks, forms, guard as guards, journal as journals};
-use crate::{impact as impacts, pass as passes, plan, points};
+use crate::{impact as impacts, pass as passes, plan, points, small};
 use crate::{rewrite as rewriting, rule as rules, simulate as simulation, site as sites, text as texts};
 
 /// The number in a packed result.
@@ -70,6 +70,16 @@ pub fn from_depths(depths: &[u8], out: &mut [u8]) -> u32 {
 #[inline(never)]
 pub fn repeat(plan: &[u8], node: u32, count: u32, out: &mut [u8]) -> u32 {
     match repeating::repeat(plan, node, count, out) {
+        Ok(nodes) => (nodes as u32) << 16,
+        Err(cause) => refused(cause),
+    }
+}
+
+/// Writes the small plan that comes next; the value is its number of nodes. 1 to 6,
+/// 26, 27, 7.
+#[inline(never)]
+pub fn next_plan(plan: &[u8], out: &mut [u8]) -> u32 {
+    match small::next_plan(plan, out) {
         Ok(nodes) => (nodes as u32) << 16,
         Err(cause) => refused(cause),
     }
@@ -326,10 +336,10 @@ pub fn rehearse(text: &[u8], out: &mut [u8]) -> u32 {
     }
 }
 
-/// The version of these calls, a byte each for its three numbers: 1.7.0.
+/// The version of these calls, a byte each for its three numbers: 1.8.0.
 #[inline(never)]
 pub fn version() -> u32 {
-    (1 << 16) + (7 << 8)
+    (1 << 16) + (8 << 8)
 }
 
 /// The central rule; the value is 1 if the event was allowed. 1 to 9.

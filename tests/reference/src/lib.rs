@@ -38,6 +38,7 @@ pub mod rewrite;
 pub mod rule;
 pub mod simulate;
 pub mod site;
+pub mod small;
 pub mod table;
 pub mod text;
 pub mod way;

@@ -58,6 +58,10 @@ pub enum Refusal {
     Count = 24,
     /// The repeated plan would be too large.
     TooManyNodes = 25,
+    /// No small plan comes after this one.
+    LastPlan = 26,
+    /// The plan is not small.
+    NotSmall = 27,
     /// Marks that are not those of the pass over their answers.
     Marks = 28,
     /// A mark or an end that can't be wanted.

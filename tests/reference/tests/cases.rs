@@ -65,8 +65,8 @@ fn p9_with_pick_0_is_14() {
 }
 
 #[test]
-fn the_version_is_1_7_0() {
-    assert_eq!(version(), 67_328);
+fn the_version_is_1_8_0() {
+    assert_eq!(version(), 67_584);
 }
 
 #[test]

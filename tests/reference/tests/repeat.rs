@@ -4,7 +4,7 @@
 mod common;
 
 use common::*;
-use reference::exported::{check, number, renumber, repeat, to_depths, value};
+use reference::exported::{check, renumber, repeat, to_depths};
 
 /// The bytes of the largest plan.
 const MOST: usize = 320;
@@ -19,18 +19,7 @@ fn repeated(plan: &[u8], node: u32, count: u32) -> Result<Vec<u8>, u32> {
 fn into_bytes(plan: &[u8], node: u32, count: u32, length: usize) -> Result<Vec<u8>, u32> {
     let mut out = vec![LEFT; length];
     let result = repeat(plan, node, count, &mut out);
-    let written = 2 * value(result) as usize;
-    assert!(out[written..].iter().all(|&byte| byte == LEFT), "the bytes behind are left");
-    match number(result) {
-        0 => {
-            assert_eq!(result, (written as u32 / 2) << 16);
-            Ok(out[..written].to_vec())
-        }
-        refused => {
-            assert_eq!(result, u32::from(refused), "a refusal has no value");
-            Err(result)
-        }
-    }
+    front(result, &out)
 }
 
 fn gives(plan: &str, node: u32, count: u32, result: &str) {

@@ -45,6 +45,12 @@ pub fn repeat(plan: &[u8], node: u32, count: u32, out: &mut [u8]) -> u32 {
     unsafe { raw::vulcedar_repeat(plan.as_ptr(), plan.len(), node, count, out.as_mut_ptr(), out.len()) }
 }
 
+/// Writes the small plan that comes next; the value is its number of nodes.
+pub fn next_plan(plan: &[u8], out: &mut [u8]) -> u32 {
+    // SAFETY: as for `rewrite`.
+    unsafe { raw::vulcedar_next_plan(plan.as_ptr(), plan.len(), out.as_mut_ptr(), out.len()) }
+}
+
 /// Checks a plan and writes every node's depth.
 pub fn check_depths(plan: &[u8], depths: &mut [u8]) -> u32 {
     // SAFETY: as for `rewrite`.

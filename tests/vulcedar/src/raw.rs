@@ -28,6 +28,8 @@ unsafe extern "C" {
         out_length: usize,
     ) -> u32;
 
+    pub fn vulcedar_next_plan(plan: *const u8, plan_length: usize, out: *mut u8, out_length: usize) -> u32;
+
     pub fn vulcedar_check_depths(
         plan: *const u8,
         plan_length: usize,

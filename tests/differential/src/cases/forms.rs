@@ -1,12 +1,9 @@
 //! Forms of a plan: cases with one right answer each.
 
-use super::P;
+use super::{LEFT, P};
 use crate::codes::*;
 use crate::implementation::Implementation;
 use crate::trial::{Trial, hex};
-
-/// What stands in lent bytes before.
-const LEFT: u8 = 0xa5;
 
 /// A plan, the same tree in the fixed numbering, and its depth form.
 struct Case<'a>(&'a [u8], &'a [u8], &'a [u8]);

@@ -1,11 +1,9 @@
 //! Templates that are repeated: cases with one right answer each.
 
+use super::{LEFT, front_is};
 use crate::codes::*;
 use crate::implementation::Implementation;
 use crate::trial::{Trial, hex};
-
-/// What stands in lent bytes before.
-const LEFT: u8 = 0xa5;
 
 /// The bytes that must be lent.
 const MOST_BYTES: usize = 320;
@@ -34,13 +32,7 @@ fn try_call<S: Implementation, R: Implementation>(
 ) {
     let mut out = vec![LEFT; length];
     let result = trial.subject.repeat(plan, node, count, &mut out);
-    let (value, written) = match expected {
-        Ok(written) => ((written.len() as u32 / 2) << 16, written),
-        Err(number) => (number, &[][..]),
-    };
-    let rest_stays = out.iter().skip(written.len()).all(|&byte| byte == LEFT);
-    let right = result == value && out.starts_with(written) && rest_stays;
-    trial.tally.compare(right, || {
+    trial.tally.compare(front_is(result, &out, expected), || {
         let (plan, out) = (hex(plan), hex(&out));
         format!("node {node} of {plan} {count} times into {length} bytes: {result:08x} {out}")
     });

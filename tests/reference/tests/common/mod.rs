@@ -46,6 +46,23 @@ pub fn refused_plans() -> Vec<(String, u32)> {
     plans.map(|(plan, number)| (plan.to_string(), number)).to_vec()
 }
 
+/// What a call wrote that answers this and writes a plan to the front of bytes that were
+/// all `LEFT`: the plan; or its refusal, which leaves all.
+pub fn front(result: u32, out: &[u8]) -> Result<Vec<u8>, u32> {
+    let written = 2 * exported::value(result) as usize;
+    assert!(out[written..].iter().all(|&byte| byte == LEFT), "the bytes behind are left");
+    match exported::number(result) {
+        0 => {
+            assert_eq!(result, (written as u32 / 2) << 16);
+            Ok(out[..written].to_vec())
+        }
+        refused => {
+            assert_eq!(result, u32::from(refused), "a refusal has no value");
+            Err(result)
+        }
+    }
+}
+
 /// A serial root with so many tasks.
 pub fn serial_of(tasks: usize) -> Vec<u8> {
     let mut plan = hex("02ff");

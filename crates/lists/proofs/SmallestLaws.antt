@@ -9,14 +9,9 @@ use lib.Dec.{eqb, ltb}
 use lib.ListN.{getD}
 use borrow.Author.Tests.{eqb-true, eqb-false, ltb-true, ltb-false}
 use native.Mathlib.Omega.{arith}
 use Rattle.lists.specs.Bytes.{Bytes}
 use Rattle.lists.proofs.Logic.{cases, clash, decided, no-bool}
-use Rattle.way.specs.Smallest.{behind, orElse, firstBelow, smallest, Less, here, there}
-
--- there is a list
-unfoldable pub isFound : Option (List ℕ) → Bool
-isFound (some l) = true
-isFound none = false
+use Rattle.lists.specs.Smallest.{Less, here, there, behind, orElse, firstBelow, smallest, isFound}
 
 found-not : (l : List ℕ) → some l ≡ none → ⊥
 found-not l e = Option·none-ne-some l (sym e)
@@ -38,13 +33,13 @@ behind-empty b (some m) e = absurd (found-not (b ∷ m) e)
 behind-empty b none e = refl
 
 -- b is the first below n for which f finds
-record First (f : ℕ → Option (List ℕ)) (n b : ℕ) (l : List ℕ) : Type 0 where
-  low : b < n
-  is : f b ≡ some l
-  before : (c : ℕ) → c < b → f c ≡ none
+pub record First (f : ℕ → Option (List ℕ)) (n b : ℕ) (l : List ℕ) : Type 0 where
+  pub low : b < n
+  pub is : f b ≡ some l
+  pub before : (c : ℕ) → c < b → f c ≡ none
 
 module _ (f : ℕ → Option (List ℕ)) where
-  below-empty : (n : ℕ) → firstBelow f n ≡ none → (b : ℕ) → b < n → f b ≡ none
+  pub below-empty : (n : ℕ) → firstBelow f n ≡ none → (b : ℕ) → b < n → f b ≡ none
   unfolding firstBelow orElse
   below-empty zero h b l = absurd (omega arith)
   below-empty (suc n) h b l = go (firstBelow f n) refl h (λ e k. below-empty n e b k)
@@ -54,7 +49,7 @@ module _ (f : ℕ → Option (List ℕ)) where
       go none e q i = cases (decided (eqb b n)) (λ z. rw (eqb-true b n z) q)
           (λ z. let ne : b ≡ n → ⊥ = eqb-false b n z in i e (omega arith))
 
-  below-found : (n : ℕ) (l : List ℕ) → firstBelow f n ≡ some l → (b : ℕ) × First f n b l
+  pub below-found : (n : ℕ) (l : List ℕ) → firstBelow f n ≡ some l → (b : ℕ) × First f n b l
   unfolding firstBelow orElse
   below-found zero l h = absurd (found-not l (sym h))
   below-found (suc n) l h = go (firstBelow f n) refl h (λ q. below-found n l q)
