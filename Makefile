@@ -32,15 +32,13 @@ all: ready $(archive) $(shared) $(command) ## the archive, the shared library an
 
 # what is missing is said first
 ready:
-	$(need) rt $(firstword $(CC)) $(also)
+	$(need) rt ar $(firstword $(CC)) $(also)
 
 # rt proves what it has not proved yet, then compiles; all that it says is in target/archive.log
-$(archive): $(proved)
-	$(need) rt
+$(archive): $(proved) packaging/archive.sh
 	@mkdir -p target
 	@echo 'the library is proved and compiled; in a fresh clone this takes some minutes'
-	@rt staticlib vulcedar 2>&1 | tee target/archive.log | grep --line-buffered '^rt: ' || { tail -n 20 target/archive.log; exit 1; }
-	@touch $@
+	@sh packaging/archive.sh 2>&1 | tee target/archive.log | grep --line-buffered -E '^(rt|archive): ' || { tail -n 20 target/archive.log; exit 1; }
 
 $(shared): $(archive) packaging/vulcedar.map
 	@mkdir -p $(@D)

@@ -9,7 +9,7 @@ for tool in "$@"; do
   case "$tool" in
     rt) from='the Rattle kit' ;;
     cargo) from="Rust $rust or later, by rustup (https://rustup.rs), or by the Debian package cargo where it is as new" ;;
-    nm | readelf) from='the Debian package binutils' ;;
+    ar | nm | readelf) from='the Debian package binutils' ;;
     pkg-config) from='the Debian package pkgconf' ;;
     awk) from='the Debian package mawk or gawk' ;;
     *) from="the Debian package $tool" ;;

@@ -45,7 +45,7 @@ sed -n 's/^ \([a-z_0-9]*\) .*\(no code\|library\|program\).*/\1/p' docs/ARCHITEC
 for crate in $(comm -3 "$work/crates" "$work/drawn"); do fault "the crate $crate is in one of crates.txt and ARCHITECTURE.md alone"; done
 
 # the archive exports what the header declares
-grep -ohE 'fn vulcedar_[a-z_]+' crates/vulcedar/src/*.rt | sed 's/fn //' | sort > "$work/exported"
+grep -ohE 'fn vulcedar_[a-z_]+' crates/*_exports/src/*.rt | sed 's/fn //' | sort > "$work/exported"
 grep -oE '^uint32_t vulcedar_[a-z_]+\(' include/vulcedar.h | sed 's/uint32_t //; s/($//' | sort > "$work/declared"
 for call in $(comm -3 "$work/exported" "$work/declared"); do fault "$call is either exported or declared, not both"; done
 

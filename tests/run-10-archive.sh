@@ -2,6 +2,5 @@
 # Builds target/staticlib/libvulcedar.a, which the other checks here link.
 set -euo pipefail
 cd "$(dirname "$0")/.."
-sh packaging/need.sh rt
-rt staticlib vulcedar
+sh packaging/archive.sh
 test -s target/staticlib/libvulcedar.a

@@ -18,9 +18,9 @@ fn least(m: usize, n: usize) -> usize
 fn by_table(letter: u8, long: usize, plan: &[u8], c: &[u8], a: &mut [u8], b: &mut [u8]) -> u32 {
     let k = least(long, c.len());
     if letter == b'B' {
-        return vulcedar::vulcedar_record_by(plan, &c[..k], &c[k..], a, b);
+        return plan_exports::vulcedar_record_by(plan, &c[..k], &c[k..], a, b);
     }
-    vulcedar::vulcedar_pass_record(plan, &c[..k], &c[k..], a, b)
+    plan_exports::vulcedar_pass_record(plan, &c[..k], &c[k..], a, b)
 }
 
 // The call of the line at a place: version, check, check that writes depths, check of a table, guard, rule, step, hear, event or message,
@@ -41,28 +41,34 @@ pub(crate) fn call(
     let node = item::wide(text, line + 7);
     let letter = plan::byte_at(text, line);
     match letter {
-        b'V' => vulcedar::vulcedar_version(),
-        b'K' => vulcedar::vulcedar_check(plan),
-        b'D' => vulcedar::vulcedar_check_depths(plan, a),
-        b'M' => vulcedar::vulcedar_check_table(c),
-        b'G' => vulcedar::vulcedar_guard(plan, code, node, a),
-        b'Q' => vulcedar::vulcedar_rule(plan, code, node),
-        b'S' => vulcedar::vulcedar_step(plan, code, node, a),
-        b'H' => vulcedar::vulcedar_hear(plan, code, node, a),
-        b'E' => vulcedar::vulcedar_simulate(plan, code, node, item::wide(text, line + 12), a),
-        b'C' => vulcedar::vulcedar_central(plan, code, node, a, b),
-        b'P' => vulcedar::vulcedar_pass(plan, c, a),
-        b'I' => vulcedar::vulcedar_impact(plan, c, a, node, code),
-        b'Y' => vulcedar::vulcedar_way(plan, node, code, item::wide(text, line + 12), a),
-        b'R' => vulcedar::vulcedar_record(plan, c, a, b),
+        b'V' => plan_exports::vulcedar_version(),
+        b'K' => plan_exports::vulcedar_check(plan),
+        b'D' => plan_exports::vulcedar_check_depths(plan, a),
+        b'M' => plan_exports::vulcedar_check_table(c),
+        b'G' => site_exports::vulcedar_guard(plan, code, node, a),
+        b'Q' => site_exports::vulcedar_rule(plan, code, node),
+        b'S' => site_exports::vulcedar_step(plan, code, node, a),
+        b'H' => site_exports::vulcedar_hear(plan, code, node, a),
+        b'E' => simulation_exports::vulcedar_simulate(
+            plan,
+            code,
+            node,
+            item::wide(text, line + 12),
+            a,
+        ),
+        b'C' => site_exports::vulcedar_central(plan, code, node, a, b),
+        b'P' => plan_exports::vulcedar_pass(plan, c, a),
+        b'I' => plan_exports::vulcedar_impact(plan, c, a, node, code),
+        b'Y' => plan_exports::vulcedar_way(plan, node, code, item::wide(text, line + 12), a),
+        b'R' => plan_exports::vulcedar_record(plan, c, a, b),
         b'A'..=b'B' => by_table(letter, code as usize, plan, c, a, b),
         b'L' => simulation::run(plan, c, a, b) as u32,
-        b'W' => vulcedar::vulcedar_rewrite(plan, a),
-        b'N' => vulcedar::vulcedar_renumber(plan, a),
-        b'O' => vulcedar::vulcedar_to_depths(plan, a),
-        b'F' => vulcedar::vulcedar_from_depths(plan, a),
-        b'X' => vulcedar::vulcedar_repeat(plan, node, code, a),
-        b'J' => vulcedar::vulcedar_next_plan(plan, a),
+        b'W' => form_exports::vulcedar_rewrite(plan, a),
+        b'N' => form_exports::vulcedar_renumber(plan, a),
+        b'O' => form_exports::vulcedar_to_depths(plan, a),
+        b'F' => form_exports::vulcedar_from_depths(plan, a),
+        b'X' => form_exports::vulcedar_repeat(plan, node, code, a),
+        b'J' => form_exports::vulcedar_next_plan(plan, a),
         _ => printed(script::rehearse(c, a)),
     }
 }

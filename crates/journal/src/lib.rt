@@ -1,6 +1,7 @@
 // The journal of a simulation: the entries that the caller lends, one of them stored and one of them read. What keeping a step and taking it back
 // mean is specs/Journal.antt; what holds of every list of both is specs/Session.antt. No public function has a `requires`.
 ghost use mathlib.Core.Path.{_≡_};
+ghost use Prim.Native.Nat.{_-_};
 ghost use lib.Dec.{ltb};
 ghost use lib.ListN.{length, getD, set};
 ghost use Rattle.journal.specs.Journal.{noEntry};
@@ -38,4 +39,11 @@ pub fn entry_at(entries: &[Entry], at: usize) -> Entry
         site: 0,
         changed: 0,
     }
+}
+
+// The place of the last of so many.
+pub fn last_place(count: usize) -> usize
+    ensures { λ r. ⌜ r ≡ count - 1 ⌝ }
+{
+    if count == 0 { 0 } else { count - 1 }
 }

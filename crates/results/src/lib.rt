@@ -2,6 +2,14 @@
 ghost use mathlib.Core.Path.{_≡_};
 ghost use Rattle.site.specs.declared.Verdict.the-variants.{Refused};
 ghost use Rattle.results.specs.Result.{result, ofVerdict};
+use journal::Entry;
+
+// The result of a kept step, and where its entry goes: past the end of the entries where it was refused.
+pub struct KeptResult {
+    pub result: u32,
+    pub at: usize,
+    pub entry: Entry,
+}
 
 // A number and a site, without a value.
 pub fn packed(number: u8, site: u8) -> u32
