@@ -1,4 +1,4 @@
-// Exported functions (include/vulcedar.h): a simulation, its record, its journal with named points, and one that is run from a text.
+// Exported functions (include/vulcedar.h): a simulation, its journal with named points, and one that is run from a text.
 // Nothing else: numbers are 32 bits wide and are not cut, a slice is a pointer and a length, and every length is tested inside. What a result
 // holds is the crate results's.
 ghost use mathlib.Core.Path.{_≡_};
