@@ -1,5 +1,5 @@
 /*
- * Vulcedar 1.8.0: jobs that follow a plan, decided by the sites that do the work.
+ * Vulcedar 1.9.0: jobs that follow a plan, decided by the sites that do the work.
  *
  * A plan is a tree of tasks and blocks. Every node has a site; a site keeps one row of bytes, what it has heard, and
  * decides the events of its node from that row alone. This header is all that a host needs; docs/GUIDE.md shows how a
@@ -97,7 +97,7 @@ extern "C" {
 
 /* The version of this header. vulcedar_version() is that of the library that is linked. */
 #define VULCEDAR_VERSION_MAJOR 1
-#define VULCEDAR_VERSION_MINOR 8
+#define VULCEDAR_VERSION_MINOR 9
 #define VULCEDAR_VERSION_PATCH 0
 #define VULCEDAR_VERSION (65536u * VULCEDAR_VERSION_MAJOR + 256u * VULCEDAR_VERSION_MINOR + VULCEDAR_VERSION_PATCH)
 
@@ -495,6 +495,17 @@ uint32_t vulcedar_desk_record_by(const uint8_t *plan, size_t plan_len, const uin
  * step that is refused has its number in its line and does not refuse the text. out is written only on 0.
  */
 uint32_t vulcedar_rehearse(const uint8_t *text, size_t text_len, uint8_t *out, size_t out_len);
+
+/* A step of a load has so many bytes: code, node, and VULCEDAR_HAPPENS for an event or the site that a message is for. */
+#define VULCEDAR_STEP_BYTES 3u
+
+/*
+ * A test load: writes count steps that a generator draws from the seed, the same for everybody who has the plan, the seed and
+ * the count (docs/RULES.md, U). They come in no sensible order, and most of them are refused where they are run; refused ones
+ * are steps like any other. A smaller count gives the front of the same load. Seed and count may be any numbers. 1 to 6, then
+ * 7 if out_len is not VULCEDAR_STEP_BYTES times count. out is written only on 0, from end to end.
+ */
+uint32_t vulcedar_workload(const uint8_t *plan, size_t plan_len, uint32_t seed, uint32_t count, uint8_t *out, size_t out_len);
 
 #ifdef __cplusplus
 }

@@ -2,7 +2,7 @@
  * What include/vulcedar.h and docs/GUIDE.md say about calling, tried: null pointers with length 0, where a result has a
  * site, the rule beside a guard, the common table, the version, a journal and its points, plans with desks, one answer of a
  * pass changed, the way to each target of a plan, one tree in each of its numberings, depth forms, templates that are
- * repeated, all small plans one after another, and what a false message does. Compiled as C and as C++.
+ * repeated, all small plans one after another, test loads, and what a false message does. Compiled as C and as C++.
  */
 #include <inttypes.h>
 #include <stdio.h>
@@ -22,6 +22,7 @@ LAYOUT(targets, VULCEDAR_BAD_TARGET == 29 && VULCEDAR_NO_WAY == 30);
 LAYOUT(forms, VULCEDAR_BAD_DEPTH == 17 && VULCEDAR_NOT_RENUMBERED == 18);
 LAYOUT(templates, VULCEDAR_NOT_REPEATABLE == 23 && VULCEDAR_BAD_COUNT == 24 && VULCEDAR_TOO_MANY_NODES == 25 && VULCEDAR_PLAN_MOST == 2 * VULCEDAR_NODES_MOST);
 LAYOUT(small, VULCEDAR_LAST_PLAN == 26 && VULCEDAR_NOT_SMALL == 27 && VULCEDAR_SMALL_NODES_MOST == 5 && VULCEDAR_SMALL_PLAN_MOST == 2 * VULCEDAR_SMALL_NODES_MOST);
+LAYOUT(steps, VULCEDAR_STEP_BYTES == 3 && VULCEDAR_HAPPENS == 0xff && VULCEDAR_START == 1 && VULCEDAR_TURN_DOWN == 8);
 LAYOUT(desks, VULCEDAR_DESK_HIGHEST == 0x9f && VULCEDAR_BAD_DESK == 22 && VULCEDAR_DESK_HIGHEST + 1 == VULCEDAR_NODES_MOST);
 
 static int wrong;
@@ -56,6 +57,7 @@ static void nulls(void)
     expect("plan of no depth form", vulcedar_from_depths(NULL, 0, NULL, 0), VULCEDAR_BAD_LENGTH);
     expect("repeating of nothing", vulcedar_repeat(NULL, 0, 0, 1, NULL, 0), VULCEDAR_BAD_LENGTH);
     expect("the next of nothing", vulcedar_next_plan(NULL, 0, NULL, 0), VULCEDAR_BAD_LENGTH);
+    expect("the load of nothing", vulcedar_workload(NULL, 0, 1, 0, NULL, 0), VULCEDAR_BAD_LENGTH);
     expect("depths of nothing", vulcedar_check_depths(NULL, 0, NULL, 0), VULCEDAR_BAD_LENGTH);
     expect("guard of nothing", vulcedar_guard(NULL, 0, VULCEDAR_START, 0, NULL, 0), VULCEDAR_BAD_LENGTH);
     expect("rule of nothing", vulcedar_rule(NULL, 0, VULCEDAR_START, 0), VULCEDAR_BAD_LENGTH);
@@ -86,6 +88,8 @@ static void nulls(void)
     expect("plan of a depth form into nothing", vulcedar_from_depths(form, sizeof form, NULL, 0), VULCEDAR_BAD_BUFFER);
     expect("repeating into nothing", vulcedar_repeat(plan, sizeof plan, 0, 1, NULL, 0), VULCEDAR_BAD_BUFFER);
     expect("the next plan into nothing", vulcedar_next_plan(plan, sizeof plan, NULL, 0), VULCEDAR_BAD_BUFFER);
+    expect("a load into nothing", vulcedar_workload(plan, sizeof plan, 1, 1, NULL, 0), VULCEDAR_BAD_BUFFER);
+    expect("a load of no step", vulcedar_workload(plan, sizeof plan, 1, 0, NULL, 0), VULCEDAR_PASSED);
     expect("depths into nothing", vulcedar_check_depths(plan, sizeof plan, NULL, 0), VULCEDAR_BAD_BUFFER);
     expect("guard into nothing", vulcedar_guard(plan, sizeof plan, VULCEDAR_START, 0, NULL, 0), VULCEDAR_BAD_BUFFER);
     expect("step on nothing", vulcedar_step(plan, sizeof plan, VULCEDAR_START, 0, NULL, 0), VULCEDAR_BAD_BUFFER);
@@ -970,6 +974,125 @@ static void not_small(void)
     }
 }
 
+enum { LOAD_STEPS = 400, LOAD_BYTES = LOAD_STEPS * VULCEDAR_STEP_BYTES };
+
+/* Asks for a load into out_len bytes: those around them are left, and all where it is refused. */
+static uint32_t workload(const uint8_t *plan, size_t plan_len, uint32_t seed, uint32_t count, uint8_t out[LOAD_BYTES], size_t out_len)
+{
+    enum { BEFORE = 8 };
+    uint8_t room[LOAD_BYTES + 2 * BEFORE], left[sizeof room];
+    memset(left, 99, sizeof left);
+    memset(room, 99, sizeof room);
+    uint32_t r = vulcedar_workload(plan, plan_len, seed, count, room + BEFORE, out_len);
+    size_t written = r == VULCEDAR_PASSED ? out_len : 0;
+    expect("bytes before a load are left", memcmp(room, left, BEFORE) == 0, 1);
+    expect("bytes behind a load are left", memcmp(room + BEFORE + written, left, sizeof room - BEFORE - written) == 0, 1);
+    memcpy(out, room + BEFORE, written);
+    return r;
+}
+
+/* Another maker's generator: moves s, and gives the new s divided by 65536. */
+static uint32_t draw(uint64_t *s)
+{
+    *s = (*s * 1664525 + 1013904223) % (UINT64_C(1) << 32);
+    return *s / 65536 & 0xffffu;
+}
+
+/* A plan of so many nodes: tasks in blocks of 31. */
+static void plan_of(size_t nodes, uint8_t plan[VULCEDAR_PLAN_MOST])
+{
+    for (size_t v = 0; v < nodes; v++) {
+        size_t block = v == 0 ? 0 : (v - 1) / 32 * 32 + 1;
+        plan[2 * v] = v == block && nodes > 1 ? (v == 0 ? byte_of(VULCEDAR_SERIAL) : byte_of(VULCEDAR_OR)) : byte_of(VULCEDAR_TASK);
+        plan[2 * v + 1] = v == 0 ? byte_of(VULCEDAR_NO_PARENT) : byte_of(v == block ? 0 : block);
+    }
+}
+
+/* Loads for plans of several sizes are those of the other maker, also of the smaller counts, and a simulation takes each step:
+   it finds no code, no node and no site that is not there. The first one begins as it is known to. */
+static void loads(void)
+{
+    static const size_t sizes[] = { 1, 3, 6, 35, 160 };
+    static const uint32_t seeds[] = { 0, 1, 2580, 2581, 0x10000u, 634785765u, 653637408u, 0x7fffffffu, 0x80000000u, 0xffffffffu };
+    static const uint8_t known[] = { VULCEDAR_START, 2, VULCEDAR_HAPPENS, VULCEDAR_PICK, 2, VULCEDAR_HAPPENS, VULCEDAR_START, 2, 1 };
+    static const uint8_t six[] = {
+        VULCEDAR_SERIAL, VULCEDAR_NO_PARENT, VULCEDAR_TASK, 0, VULCEDAR_XOR, 0, VULCEDAR_TASK, 2, VULCEDAR_TASK, 2, VULCEDAR_TASK, 0,
+    };
+    static uint8_t state[VULCEDAR_NODES_MOST * VULCEDAR_NODES_MOST];
+    uint8_t plan[VULCEDAR_PLAN_MOST], out[LOAD_BYTES], front[LOAD_BYTES];
+    expect("a known load", workload(six, sizeof six, 0, 3, out, sizeof known), VULCEDAR_PASSED);
+    expect("its steps", memcmp(out, known, sizeof known) == 0, 1);
+    for (size_t i = 0; i < sizeof sizes / sizeof sizes[0]; i++) {
+        size_t nodes = sizes[i];
+        plan_of(nodes, plan);
+        for (size_t k = 0; k < sizeof seeds / sizeof seeds[0]; k++) {
+            uint64_t s = seeds[k];
+            memset(state, 0, sizeof state);
+            expect("a load", workload(plan, 2 * nodes, seeds[k], LOAD_STEPS, out, sizeof out), VULCEDAR_PASSED);
+            for (const uint8_t *step = out; step < out + sizeof out; step += VULCEDAR_STEP_BYTES) {
+                uint32_t what = draw(&s), code = draw(&s) % 8 + 1, node = draw(&s) % byte_of(nodes), site = draw(&s) % byte_of(nodes);
+                expect("a step's code", step[0], code);
+                expect("a step's node", step[1], node);
+                expect("a step's site", step[2], what % 2 == 0 ? 0xff : site);
+                uint32_t number = VULCEDAR_NUMBER(vulcedar_simulate(plan, 2 * nodes, step[0], step[1], step[2], state, nodes * nodes));
+                expect("a step that is run", number == VULCEDAR_PASSED || (number >= VULCEDAR_NOT_APPLICABLE && number <= VULCEDAR_NOT_HAPPENED), 1);
+            }
+            for (uint32_t count = 0; count <= LOAD_STEPS; count += 25) {
+                size_t length = count * VULCEDAR_STEP_BYTES;
+                expect("a smaller count", workload(plan, 2 * nodes, seeds[k], count, front, length), VULCEDAR_PASSED);
+                expect("is the front", memcmp(front, out, length) == 0, 1);
+            }
+        }
+    }
+}
+
+/* 1 to 6, then 7; three times the count is not cut. */
+static void no_loads(void)
+{
+    static const uint32_t huge[] = { 0x5555u, 0x5556u, 0xaaabu, 0x10000u, 0x10001u, 0x55555555u, 0x55555556u, 0x80000000u, 0xaaaaaaaau, 0xaaaaaaabu, 0xffffffffu };
+    uint8_t out[LOAD_BYTES], plan[VULCEDAR_PLAN_MOST], faulty[12], deep[2 * VULCEDAR_DEPTH_MOST + 4];
+    plan_of(6, plan);
+    for (size_t v = 0; v < sizeof deep / 2; v++) {
+        deep[2 * v] = v + 1 < sizeof deep / 2 ? VULCEDAR_AND : VULCEDAR_TASK;
+        deep[2 * v + 1] = v == 0 ? byte_of(VULCEDAR_NO_PARENT) : byte_of(v - 1);
+    }
+    for (size_t length = 0; length <= 30; length++) {
+        for (uint32_t count = 0; count <= 10; count++) {
+            uint32_t r = length == count * VULCEDAR_STEP_BYTES ? VULCEDAR_PASSED : VULCEDAR_BAD_BUFFER;
+            expect("a load's length", workload(plan, 12, 7, count, out, length), r);
+            for (size_t cut = 0; cut < 4; cut++) /* a block has no child */
+                expect("a cut plan", workload(plan, cut, 7, count, out, length), cut == 2 ? VULCEDAR_BAD_CHILDREN : VULCEDAR_BAD_LENGTH);
+            for (uint32_t fault = VULCEDAR_BAD_KIND; fault <= VULCEDAR_BAD_CHILDREN; fault++) {
+                memcpy(faulty, plan, sizeof faulty);
+                faulty[6] = fault == VULCEDAR_BAD_KIND ? 9 : fault == VULCEDAR_BAD_CHILDREN ? VULCEDAR_CONDITIONAL : VULCEDAR_TASK;
+                faulty[7] = fault == VULCEDAR_BAD_PARENT ? 3 : fault == VULCEDAR_TASK_PARENT ? 2 : 1;
+                expect("a fault before 7", workload(faulty, sizeof faulty, 7, count, out, length), fault);
+            }
+            expect("a plan that is too deep", workload(deep, sizeof deep, 7, count, out, length), VULCEDAR_TOO_DEEP);
+        }
+        for (size_t i = 0; i < sizeof huge / sizeof huge[0]; i++) {
+            expect("a huge count", workload(plan, 12, 7, huge[i], out, length), VULCEDAR_BAD_BUFFER);
+            expect("a fault before it", workload(deep, sizeof deep, 7, huge[i], out, length), VULCEDAR_TOO_DEEP);
+        }
+    }
+}
+
+/* 7 as well for 2^32 bytes more than there should be, if so many can be had; nobody writes them. */
+static void too_many_bytes(void)
+{
+#ifndef __SANITIZE_ADDRESS__ /* the sanitizer would write an eighth as many of its own */
+    static const uint8_t plan[] = { VULCEDAR_TASK, VULCEDAR_NO_PARENT };
+    size_t length = (UINT64_C(1) << 32) + VULCEDAR_STEP_BYTES;
+    void *memory = calloc(length, 1);
+    uint8_t *room;
+    if (memory == NULL) return;
+    memcpy(&room, &memory, sizeof room);
+    expect("a load into too many bytes", vulcedar_workload(plan, sizeof plan, 1, 1, room, length), VULCEDAR_BAD_BUFFER);
+    expect("they are left", room[0] == 0 && room[1] == 0 && room[2] == 0, 1);
+    free(memory);
+#endif
+}
+
 /* Task 1, then task 2: site 2 is told that 1 committed, which it did not, and the block commits without it. */
 static void false_message(void)
 {
@@ -1024,7 +1147,10 @@ int main(void)
     not_repeated();
     small_plans();
     not_small();
+    loads();
+    no_loads();
+    too_many_bytes();
     false_message();
-    if (wrong == 0) printf("header: nulls, parts of results, a journal, its points, tables, desks, a changed answer, ways, forms of a plan, repeated templates, all small plans, the version and a false message are as it says\n");
+    if (wrong == 0) printf("header: nulls, parts of results, a journal, its points, tables, desks, a changed answer, ways, forms of a plan, repeated templates, all small plans, test loads, the version and a false message are as it says\n");
     return wrong == 0 ? 0 : 1;
 }

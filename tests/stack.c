@@ -2,8 +2,9 @@
  * How much stack a call takes: every exported function is called on a painted stack of its own, for plans of 160 nodes as
  * deep and as wide as they may be, and for every event of them, refused and passed; with desks, three nodes share one. An answer
  * is changed for every node, and a way is looked for to every target. Templates are repeated up to 160 nodes, as deep and as wide
- * as they may be, and beyond. The next plan is asked for at every small one. Prints the deepest of each function; fails if one is
- * above what the header says. Symbols must be bound beforehand (-Wl,-z,now): the loader's own stack is not the library's.
+ * as they may be, and beyond. The next plan is asked for at every small one. Loads have many steps, one and none. Prints the deepest
+ * of each function; fails if one is above what the header says. Symbols must be bound beforehand (-Wl,-z,now): the loader's own stack
+ * is not the library's.
  */
 #define _GNU_SOURCE
 #include <stdio.h>
@@ -22,6 +23,7 @@ static uint8_t drawn[2 * NODES]; /* a template, its marked node, and how many ti
 static uint32_t drawn_nodes, marked, times;
 static uint8_t small[VULCEDAR_SMALL_PLAN_MOST] = { VULCEDAR_TASK, VULCEDAR_NO_PARENT }; /* a small plan */
 static uint32_t small_nodes = 1;
+static uint8_t load[1000 * VULCEDAR_STEP_BYTES];
 static uint8_t passed[NODES]; /* the marks of the pass over the answers */
 static uint8_t with_desks[3 * NODES], desk_state[NODES * NODES]; /* the same plan with desks */
 static size_t desk_len; /* of that state */
@@ -45,6 +47,10 @@ static void repeat(void) { answer = vulcedar_repeat(drawn, 2 * drawn_nodes, mark
 static void repeat_too_often(void) { answer = vulcedar_repeat(drawn, 2 * drawn_nodes, marked, times + 1, out, sizeof out); }
 static void next_plan(void) { answer = vulcedar_next_plan(small, 2 * small_nodes, out, sizeof small); }
 static void not_small(void) { answer = vulcedar_next_plan(plan, 2 * nodes, out, sizeof small); }
+static void workload(void) { answer = vulcedar_workload(plan, 2 * nodes, 0xffffffffu, sizeof load / VULCEDAR_STEP_BYTES, load, sizeof load); }
+static void one_step(void) { answer = vulcedar_workload(plan, 2 * nodes, 0, 1, load, VULCEDAR_STEP_BYTES); }
+static void no_step(void) { answer = vulcedar_workload(plan, 2 * nodes, 0, 0, load, 0); }
+static void no_load(void) { answer = vulcedar_workload(plan, 2 * nodes, 0, 0xffffffffu, load, sizeof load); }
 static void check_depths(void) { answer = vulcedar_check_depths(plan, 2 * nodes, out, nodes); }
 static void guard(void) { answer = vulcedar_guard(plan, 2 * nodes, code, node, buf, sizeof buf); }
 static void short_guard(void) { answer = vulcedar_guard(plan, 2 * nodes, code, node, buf, sizeof buf - 1); }
@@ -93,6 +99,7 @@ static struct call { const char *name; void (*run)(void); int events; size_t mos
     { "renumber", renumber, 0, 0 }, { "to_depths", to_depths, 0, 0 }, { "to_depths (as it is)", not_renumbered, 0, 0 }, { "from_depths", from_depths, 0, 0 },
     { "repeat", repeat, 0, 0 }, { "repeat (too often)", repeat_too_often, 0, 0 },
     { "next_plan", next_plan, 0, 0 }, { "next_plan (not small)", not_small, 0, 0 },
+    { "workload", workload, 0, 0 }, { "workload (one step)", one_step, 0, 0 }, { "workload (no step)", no_step, 0, 0 }, { "workload (refused)", no_load, 0, 0 },
     { "guard", guard, 1, 0 }, { "guard (short buffer)", short_guard, 1, 0 }, { "rule", rule, 1, 0 }, { "step", step, 1, 0 },
     { "hear", hear, 1, 0 }, { "pass", pass, 0, 0 }, { "impact", impact, 1, 0 }, { "way", find, 2, 0 }, { "simulate (event)", happen, 1, 0 }, { "simulate (message)", tell, 1, 0 },
     { "keep (event)", keep_event, 1, 0 }, { "keep (message)", keep_message, 1, 0 },
@@ -245,6 +252,8 @@ static void measure_plan(size_t none)
     if (r != VULCEDAR_PASSED) printf("stack: a plan has no depth form: %u\n", r), exit(1);
     r = vulcedar_repeat(drawn, 2 * drawn_nodes, marked, times, out, sizeof out);
     if (VULCEDAR_NUMBER(r) != VULCEDAR_PASSED) printf("stack: a template is refused with %u\n", VULCEDAR_NUMBER(r)), exit(1);
+    r = vulcedar_workload(plan, 2 * nodes, 1, sizeof load / VULCEDAR_STEP_BYTES, load, sizeof load);
+    if (r != VULCEDAR_PASSED) printf("stack: a load is refused with %u\n", r), exit(1);
     seat();
     r = vulcedar_desk_record(with_desks, 3 * nodes, desk_state, desk_len, marks, nodes, classes, nodes);
     if (r != VULCEDAR_PASSED) printf("stack: a plan with desks is refused with %u\n", r), exit(1);

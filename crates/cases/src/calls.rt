@@ -14,6 +14,13 @@ fn least(m: usize, n: usize) -> usize
     if m < n { m } else { n }
 }
 
+// A number by its upper and its lower half.
+fn joined(high: u32, low: u32) -> u32
+    requires { ⌜ (high ≤ 65535) × (low ≤ 65535) ⌝ }
+{
+    65536 * high + low
+}
+
 // The record by a table, or the pass's record: so many of the handed bytes are the table, the others the state or the answers.
 fn by_table(letter: u8, long: usize, plan: &[u8], c: &[u8], a: &mut [u8], b: &mut [u8]) -> u32 {
     let k = least(long, c.len());
@@ -25,8 +32,8 @@ fn by_table(letter: u8, long: usize, plan: &[u8], c: &[u8], a: &mut [u8], b: &mu
 
 // The call of the line at a place: version, check, check that writes depths, check of a table, guard, rule, step, hear, event or message,
 // central rule, pass, changed answer, way, record, pass's record and record by a table, list of steps, rewriting, renumbering, depth form of a
-// plan, plan of a depth form, repeated template, next small plan, text. Its result has the number in the lowest byte, then a byte for a site or a guard's rule,
-// and the value, where there is one, from bit 16 on.
+// plan, plan of a depth form, repeated template, next small plan, test load, text. Its result has the number in the lowest byte, then a byte for a site
+// or a guard's rule, and the value, where there is one, from bit 16 on.
 pub(crate) fn call(
     text: &[u8],
     line: usize,
@@ -69,6 +76,12 @@ pub(crate) fn call(
         b'F' => form_exports::vulcedar_from_depths(plan, a),
         b'X' => form_exports::vulcedar_repeat(plan, node, code, a),
         b'J' => form_exports::vulcedar_next_plan(plan, a),
+        b'U' => simulation_exports::vulcedar_workload(
+            plan,
+            joined(node, item::wide(text, line + 12)),
+            code,
+            a,
+        ),
         _ => printed(script::rehearse(c, a)),
     }
 }

@@ -25,6 +25,7 @@ fn pair(text: &[u8], at: usize) -> u8
 // Four digits.
 pub(crate) fn wide(text: &[u8], at: usize) -> u32
     requires { ⌜ at ≤ 200000 ⌝ }
+    ensures { λ r. ⌜ r ≤ 65535 ⌝ }
 {
     256 * (pair(text, at) as u32) + (pair(text, at + 2) as u32)
 }

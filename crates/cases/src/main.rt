@@ -9,7 +9,8 @@
 //   c"        01ff/--/  bytes as text, `/` for a line feed
 //   G 0003 0002 0000 label    a call, by its letter (calls.rt), with code, node and site; for A and B the code is the length of the table,
 //                             for I it is the new answer and the node the task, for Y the code is the mark and the site the end,
-//                             for X the code is the count and the node the marked one
+//                             for X the code is the count and the node the marked one, for U the code is the count and node and site the
+//                             two halves of the seed
 mod calls;
 mod item;
 mod say;

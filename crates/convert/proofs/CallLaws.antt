@@ -9,13 +9,14 @@ use lib.ListN.{length, take, drop, replicate, length-replicate, drop-of-length-l
 use borrow.Author.Tests.{eqb-true, eq-eqb, ne-eqb}
 use Rattle.lists.proofs.Parts.{part-length, Back, copied-over}
 use Rattle.plan.specs.Check.{lengthOk, kindOk, atAll, checkNumber, fitNumber, Accepted}
+use Rattle.plan.specs.Replaced.{replaced}
 use Rattle.plan.proofs.CheckLaws.{length-told}
 use Rattle.plan.proofs.FitLaws.{fit-none}
 use Rattle.plan.proofs.Main.{check-exact}
 use Rattle.links.specs.Links.{Linked}
 use Rattle.trees.specs.Tree.{treesBelow, treeOf}
 use Rattle.trees.specs.Numbering.{renumbered, inPreorder}
-use Rattle.trees.specs.Renumber.{converted, renumberNumber, renumberOf}
+use Rattle.trees.specs.Renumber.{renumberNumber, renumberOf}
 use Rattle.trees.proofs.RenumberLaws.{below-count, new-length}
 use Rattle.placing.specs.Place.{Placeable, Placed}
 use Rattle.placing.proofs.PlaceLaws.{root-placed}
@@ -36,7 +37,7 @@ root-written p out ok e h =
 
 -- n is what `fit` answered
 module _ (p out : List ℕ) (n : ℕ) (told : n ≡ fitNumber p (eqb (length out) (length p))) where
-  pub renumber-refused : (n ≡ 0 → ⊥) → renumberOf p out ≡ converted n out
+  pub renumber-refused : (n ≡ 0 → ⊥) → renumberOf p out ≡ replaced n out
   unfolding renumberOf renumberNumber
   renumber-refused h = rw (← told, ne-eqb n 0 h)
 
@@ -44,13 +45,13 @@ module _ (p out : List ℕ) (n : ℕ) (told : n ≡ fitNumber p (eqb (length out
     pub renumber-ready : Accepted p × (length out ≡ length p)
     renumber-ready = let r = fit-none p _ (sym told ∙ fine) in (check-exact p .0 (r .0), eqb-true (length out) (length p) (r .1))
 
-    pub renumber-done : (new : List ℕ) → new ≡ renumbered p → renumberOf p out ≡ converted 0 new
+    pub renumber-done : (new : List ℕ) → new ≡ renumbered p → renumberOf p out ≡ replaced 0 new
     unfolding renumberOf renumberNumber
     renumber-done new e = rw (← told, fine, e)
 
 -- k is what `check` answered
 module _ (p out : List ℕ) (k : ℕ) (told : k ≡ checkNumber p) where
-  pub to-refused : (k ≡ 0 → ⊥) → toDepthsOf p out ≡ converted k out
+  pub to-refused : (k ≡ 0 → ⊥) → toDepthsOf p out ≡ replaced k out
   unfolding toDepthsOf toDepthsNumber
   to-refused h = rw (← told, ne-eqb k 0 h, ne-eqb k 0 h)
 
@@ -58,21 +59,21 @@ module _ (p out : List ℕ) (k : ℕ) (told : k ≡ checkNumber p) where
     pub to-ready : Accepted p
     to-ready = check-exact p .0 (sym told ∙ fine)
 
-    pub to-other : inPreorder p ≡ false → toDepthsOf p out ≡ converted 18 out
+    pub to-other : inPreorder p ≡ false → toDepthsOf p out ≡ replaced 18 out
     unfolding toDepthsOf toDepthsNumber
     to-other h = rw (← told, fine, h)
 
-    pub to-wrong : inPreorder p ≡ true → (length out ≡ length p → ⊥) → toDepthsOf p out ≡ converted 7 out
+    pub to-wrong : inPreorder p ≡ true → (length out ≡ length p → ⊥) → toDepthsOf p out ≡ replaced 7 out
     unfolding toDepthsOf toDepthsNumber
     to-wrong h n = rw (← told, fine, h, ne-eqb (length out) (length p) n)
 
-    pub to-done : inPreorder p ≡ true → length out ≡ length p → (new : List ℕ) → new ≡ depthForm p → toDepthsOf p out ≡ converted 0 new
+    pub to-done : inPreorder p ≡ true → length out ≡ length p → (new : List ℕ) → new ≡ depthForm p → toDepthsOf p out ≡ replaced 0 new
     unfolding toDepthsOf toDepthsNumber
     to-done h e new f = rw (← told, fine, h, eq-eqb (length out) (length p) e, f)
 
 -- a depth form, test by test
 module _ (d out : List ℕ) where
-  pub from-1 : lengthOk d ≡ false → fromDepthsOf d out ≡ converted 1 out
+  pub from-1 : lengthOk d ≡ false → fromDepthsOf d out ≡ replaced 1 out
   unfolding fromDepthsOf fromDepthsNumber formNumber
   from-1 a = rw a
 
@@ -87,12 +88,12 @@ module _ (d out : List ℕ) where
     pub from-made : (q : List ℕ) → q ≡ formPlan d → Back q (replicate 320 0) (length d)
     from-made q e = record { long = ap length e ∙ plan-long d ∙ sym (length-told d a .even) }
 
-    pub from-2 : atAll kindOk d ≡ false → fromDepthsOf d out ≡ converted 2 out
+    pub from-2 : atAll kindOk d ≡ false → fromDepthsOf d out ≡ replaced 2 out
     unfolding fromDepthsOf fromDepthsNumber formNumber
     from-2 b = rw (a, b)
 
     module _ (b : atAll kindOk d ≡ true) where
-      pub from-17 : atAll levelOk d ≡ false → fromDepthsOf d out ≡ converted 17 out
+      pub from-17 : atAll levelOk d ≡ false → fromDepthsOf d out ≡ replaced 17 out
       unfolding fromDepthsOf fromDepthsNumber formNumber
       from-17 e = rw (a, b, e)
 
@@ -102,7 +103,7 @@ module _ (d out : List ℕ) where
         unfolding fromDepthsNumber fitNumber
         from-number = rw (form-as-plan d a b e, told, made)
 
-        pub from-refused : (n ≡ 0 → ⊥) → fromDepthsOf d out ≡ converted n out
+        pub from-refused : (n ≡ 0 → ⊥) → fromDepthsOf d out ≡ replaced n out
         unfolding fromDepthsOf
         from-refused h = rw (from-number, ne-eqb n 0 h)
 
@@ -114,7 +115,7 @@ module _ (d out : List ℕ) where
           from-room = omega (arith, from-long, ap length made, plan-long d, length-told d a .even)
 
           -- q is copied over the lent bytes
-          pub from-done : (new : List ℕ) → new ≡ take (length q) q ++ drop (length q) out → fromDepthsOf d out ≡ converted 0 new
+          pub from-done : (new : List ℕ) → new ≡ take (length q) q ++ drop (length q) out → fromDepthsOf d out ≡ replaced 0 new
           unfolding fromDepthsOf
           from-done new f =
               let same : length q ≡ length out = ap length made ∙ plan-long d ∙ sym (length-told d a .even) ∙ sym from-long in

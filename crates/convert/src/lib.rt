@@ -8,7 +8,8 @@ ghost use lib.ListN.{length};
 ghost use Rattle.plan.specs.Plan.{size};
 ghost use Rattle.plan.specs.Check.{lengthOk, atAll, Accepted};
 ghost use Rattle.trees.specs.Numbering.{renumbered, isAbove, inPreorder};
-ghost use Rattle.trees.specs.Renumber.{converted, renumberOf};
+ghost use Rattle.plan.specs.Replaced.{replaced};
+ghost use Rattle.trees.specs.Renumber.{renumberOf};
 ghost use Rattle.depth_form.specs.Form.{depthForm, depthAt, formPlan, levelOk};
 ghost use Rattle.depth_form.specs.Calls.{toDepthsOf, fromDepthsOf};
 
@@ -52,7 +53,7 @@ fn write_renumbered(plan: &[u8], out: &mut [u8])
 
 // The same tree in the fixed numbering, into `out`: 1 to 6 by the check, 7 where `out` has not the plan's length, and 0 where it is written.
 pub fn renumber(plan: &[u8], out: &mut [u8]) -> u8
-    ensures { λ r. ⌜ renumberOf (now (plan .entry)) (now (out .entry)) ≡ converted r (now (out .exit)) ⌝ }
+    ensures { λ r. ⌜ renumberOf (now (plan .entry)) (now (out .entry)) ≡ replaced r (now (out .exit)) ⌝ }
 {
     let bad = checker::fit(plan, out.len() == plan.len());
     if bad != 0 {
@@ -81,7 +82,7 @@ fn write_depths(plan: &[u8], out: &mut [u8])
 // The depth form of a plan, into `out`: 1 to 6 by the check, 18 where the plan is not in the fixed numbering, 7 where `out` has not its
 // length, and 0 where it is written.
 pub fn to_depths(plan: &[u8], out: &mut [u8]) -> u8
-    ensures { λ r. ⌜ toDepthsOf (now (plan .entry)) (now (out .entry)) ≡ converted r (now (out .exit)) ⌝ }
+    ensures { λ r. ⌜ toDepthsOf (now (plan .entry)) (now (out .entry)) ≡ replaced r (now (out .exit)) ⌝ }
 {
     let bad = checker::check(plan);
     if bad != 0 {
@@ -150,7 +151,7 @@ fn write_plan(depths: &[u8], out: &mut [u8])
 // The plan of a depth form, into `out`: 1 and 2 as of a plan, 17 for its depths, 4 to 6 of its plan, 7 where `out` has not the form's length,
 // and 0 where it is written.
 pub fn from_depths(depths: &[u8], out: &mut [u8]) -> u8
-    ensures { λ r. ⌜ fromDepthsOf (now (depths .entry)) (now (out .entry)) ≡ converted r (now (out .exit)) ⌝ }
+    ensures { λ r. ⌜ fromDepthsOf (now (depths .entry)) (now (out .entry)) ≡ replaced r (now (out .exit)) ⌝ }
 {
     if !checker::length_ok(depths) {
         return 1;

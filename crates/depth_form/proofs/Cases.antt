@@ -8,8 +8,8 @@ use lib.Dec.{eqb}
 use Rattle.lists.specs.Seq.{keep, upFrom, allBelow}
 use Rattle.plan.specs.Plan.{kindOf, size, kindByte, kind, parent, childrenBelow, children, childCount, depthWithin, depth}
 use Rattle.plan.specs.Check.{lengthOk, kindOk, parentOk, underBlock, fits, countOk, depthOk, atAll, checkNumber}
+use Rattle.plan.specs.Replaced.{Replaced, replaced}
 use Rattle.trees.specs.Numbering.{aboveWithin, isAbove, follows, inPreorder}
-use Rattle.trees.specs.Renumber.{Converted, converted}
 use Rattle.depth_form.specs.Form.{pairs, depthForm, depthAt, lastAt, lineParent, formPlan, levelOk, formNumber}
 use Rattle.depth_form.specs.Calls.{toDepthsNumber, toDepthsOf, fromDepthsNumber, fromDepthsOf}
 
@@ -130,8 +130,8 @@ refused p out n = record { given = p; lent = out; number = n; new = [] }
 passes : List ℕ → List ℕ → List ℕ → Called
 passes p out q = record { given = p; lent = out; number = 0; new = q }
 
-abbrev left : Called → Converted
-left k = converted (k .number) (cond (eqb (k .number) 0) (k .new) (k .lent))
+abbrev left : Called → Replaced
+left k = replaced (k .number) (cond (eqb (k .number) 0) (k .new) (k .lent))
 
 -- serial 0: xor 1 of tasks 2 and 4, task 3, which stands between them
 abbrev other : List ℕ

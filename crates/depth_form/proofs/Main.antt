@@ -11,9 +11,9 @@ use Rattle.plan.proofs.AcceptedLaws.{accepted-ordered}
 use Rattle.plan.proofs.CheckLaws.{length-told}
 use Rattle.plan.proofs.Exact.{passes}
 use Rattle.plan.proofs.Main.{check-exact}
+use Rattle.plan.proofs.ReplacedLaws.{replaced-just}
 use Rattle.trees.specs.Numbering.{inPreorder}
 use Rattle.trees.proofs.AboveLaws.{preorder-told}
-use Rattle.trees.proofs.CallLaws.{passed-just}
 use Rattle.depth_form.specs.Form.{depthForm, formPlan, levelOk, formNumber}
 use Rattle.depth_form.specs.Calls.{toDepthsNumber, toDepthsOf, fromDepthsNumber, fromDepthsOf}
 use Rattle.depth_form.specs.Claim.{DepthsThere, DepthsBack, FormAsPlan, FormExact, ToDepthsCall, FromDepthsCall}
@@ -69,7 +69,7 @@ form-exact d = (
 pub to-depths-call : ToDepthsCall
 unfolding toDepthsOf toDepthsNumber
 to-depths-call p out d = (
-  λ h. let r = (passed-just _ out (depthForm p) d) .0 h in
+  λ h. let r = (replaced-just _ out (depthForm p) d) .0 h in
       let k = number-passed (checkNumber p) _ (r .0) in
       let o = test-passed (inPreorder p) 17 _ (k .1) in
       let l = test-passed (eqb (length out) (length p)) 6 0 (o .1) in
@@ -80,7 +80,7 @@ to-depths-call p out d = (
 pub from-depths-call : FromDepthsCall
 unfolding fromDepthsOf fromDepthsNumber
 from-depths-call d out p = (
-  λ h. let r = (passed-just _ out (formPlan d) p) .0 h in
+  λ h. let r = (replaced-just _ out (formPlan d) p) .0 h in
       let k = number-passed (formNumber d) _ (r .0) in
       let l = test-passed (eqb (length out) (length d)) 6 0 (k .1) in
       let b = depths-back d (k .0) in

@@ -5,8 +5,8 @@ use Prim.Native.Nat.{ℕ}
 use lib.Dec.{eqb}
 use lib.ListN.{length}
 use Rattle.plan.specs.Check.{checkNumber}
+use Rattle.plan.specs.Replaced.{Replaced, replacedBy}
 use Rattle.trees.specs.Numbering.{inPreorder}
-use Rattle.trees.specs.Renumber.{Converted, converted}
 use Rattle.depth_form.specs.Form.{depthForm, formPlan, formNumber}
 
 -- R10, H0, H26: 1 to 6 of the plan, 18 where it is not in the fixed numbering, then 7 where the lent bytes have not its length
@@ -17,10 +17,8 @@ toDepthsNumber p out =
     (cond (not (eqb (length out) (length p))) 7 0))
 
 -- R10: a refused call leaves the lent bytes; any other leaves the plan's depth form
-unfoldable pub toDepthsOf : List ℕ → List ℕ → Converted
-toDepthsOf p out =
-    cond (not (eqb (toDepthsNumber p out) 0)) (converted (toDepthsNumber p out) out)
-    (converted 0 (depthForm p))
+unfoldable pub toDepthsOf : List ℕ → List ℕ → Replaced
+toDepthsOf p out = replacedBy (toDepthsNumber p out) out (depthForm p)
 
 -- R10, H0: the form's number, then 7 where the lent bytes have not its length
 unfoldable pub fromDepthsNumber : List ℕ → List ℕ → ℕ
@@ -29,7 +27,5 @@ fromDepthsNumber d out =
     (cond (not (eqb (length out) (length d))) 7 0)
 
 -- R10: a refused call leaves the lent bytes; any other leaves the form's plan
-unfoldable pub fromDepthsOf : List ℕ → List ℕ → Converted
-fromDepthsOf d out =
-    cond (not (eqb (fromDepthsNumber d out) 0)) (converted (fromDepthsNumber d out) out)
-    (converted 0 (formPlan d))
+unfoldable pub fromDepthsOf : List ℕ → List ℕ → Replaced
+fromDepthsOf d out = replacedBy (fromDepthsNumber d out) out (formPlan d)

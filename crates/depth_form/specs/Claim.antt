@@ -6,8 +6,8 @@ use mathlib.Core.Logic.{_↔_}
 use Prim.Native.Nat.{ℕ}
 use lib.ListN.{length}
 use Rattle.plan.specs.Check.{lengthOk, kindOk, atAll, checkNumber, Accepted}
+use Rattle.plan.specs.Replaced.{replaced}
 use Rattle.trees.specs.Numbering.{inPreorder}
-use Rattle.trees.specs.Renumber.{converted}
 use Rattle.depth_form.specs.Form.{depthForm, formPlan, levelOk, formNumber}
 use Rattle.depth_form.specs.Calls.{toDepthsOf, fromDepthsOf}
 
@@ -48,8 +48,8 @@ FormExact = (d : List ℕ) → (formNumber d ≡ 0) ↔ ((p : List ℕ) × Match
 
 -- CLAIM (R10). A call with a plan passes and leaves d just where d matches the plan and the lent bytes have the plan's length.
 abbrev pub ToDepthsCall : Type 0
-ToDepthsCall = (p out d : List ℕ) → (toDepthsOf p out ≡ converted 0 d) ↔ (Matches p d × (length out ≡ length p))
+ToDepthsCall = (p out d : List ℕ) → (toDepthsOf p out ≡ replaced 0 d) ↔ (Matches p d × (length out ≡ length p))
 
 -- CLAIM (R10). A call with a depth form passes and leaves p just where p matches the form and the lent bytes have the form's length.
 abbrev pub FromDepthsCall : Type 0
-FromDepthsCall = (d out p : List ℕ) → (fromDepthsOf d out ≡ converted 0 p) ↔ (Matches p d × (length out ≡ length d))
+FromDepthsCall = (d out p : List ℕ) → (fromDepthsOf d out ≡ replaced 0 p) ↔ (Matches p d × (length out ≡ length d))

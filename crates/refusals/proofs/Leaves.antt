@@ -11,19 +11,22 @@ use Rattle.lists.specs.Seq.{table}
 use Rattle.plan.specs.Check.{checkNumber, fitNumber}
 use Rattle.plan.specs.Plan.{size, depth}
 use Rattle.plan.specs.Made.{Made, made, inFront}
+use Rattle.plan.specs.Replaced.{Replaced, replaced, replacedBy}
 use Rattle.event.specs.Event.{eventOf}
 use Rattle.event.specs.Site.{Layout, own}
 use Rattle.event.specs.Valid.{invalid}
 use Rattle.checker.specs.Depths.{Checked, checked, depthsNumber, depthsOf}
-use Rattle.rewrite.specs.Rewrite.{rewritten, Rewrote, rewrote, rewriteNumber, rewriteOf}
+use Rattle.rewrite.specs.Rewrite.{rewritten, rewriteNumber, rewriteOf}
 use Rattle.trees.specs.Numbering.{renumbered}
-use Rattle.trees.specs.Renumber.{Converted, converted, renumberNumber, renumberOf}
+use Rattle.trees.specs.Renumber.{renumberNumber, renumberOf}
 use Rattle.depth_form.specs.Form.{depthForm, formPlan}
 use Rattle.depth_form.specs.Calls.{toDepthsNumber, toDepthsOf, fromDepthsNumber, fromDepthsOf}
 use Rattle.template.specs.Repeat.{repeated}
 use Rattle.template.specs.Call.{repeatNumber, repeatOf}
 use Rattle.small_plans.specs.Order.{nextPlan}
 use Rattle.small_plans.specs.Call.{given, nextOf}
+use Rattle.workload.specs.Load.{load}
+use Rattle.workload.specs.Call.{loadNumber, loadOf}
 use Rattle.guard.specs.Guard.{guard}
 use Rattle.guard.specs.Rule.{ruleByte}
 use Rattle.guard.specs.Bytes.{encode}
@@ -54,27 +57,29 @@ use Rattle.script.specs.Script.{rehearseInto, textNumber, textLines, TextRun, t
 use Rattle.refusals.specs.Claim.{guardNumber, messageNumber, simulateNumber, ruleNumber}
 use Rattle.refusals.proofs.ChoiceLaws.{choice, Leaving, refusal, tested}
 
+-- a number, and new bytes where it is 0
+replaced-leaves : (b : List ℕ) (n : ℕ) (new : List ℕ) → (replacedBy n b new .number ≡ 0 → ⊥) → replacedBy n b new .out ≡ b
+replaced-leaves b n new = tested (λ (r : Replaced). r .number) (λ r. r .out ≡ b) n (replaced n b) (replaced 0 new) refl (λ e. refl)
+
 pub rewrite-leaves : (p b : List ℕ) → (rewriteOf p b .number ≡ 0 → ⊥) → rewriteOf p b .out ≡ b
 unfolding rewriteOf
-rewrite-leaves p b =
-    tested (λ (r : Rewrote). r .number) (λ r. r .out ≡ b) (rewriteNumber p b) (rewrote (rewriteNumber p b) b) (rewrote 0 (rewritten p)) refl (λ e. refl)
-
--- a number, and a new form where it is 0
-converted-leaves : (b : List ℕ) (n : ℕ) (new : List ℕ) →
-    ((cond (not (eqb n 0)) (converted n b) (converted 0 new)) .number ≡ 0 → ⊥) → (cond (not (eqb n 0)) (converted n b) (converted 0 new)) .out ≡ b
-converted-leaves b n new = tested (λ (r : Converted). r .number) (λ r. r .out ≡ b) n (converted n b) (converted 0 new) refl (λ e. refl)
+rewrite-leaves p b = replaced-leaves b (rewriteNumber p b) (rewritten p)
 
 pub renumber-leaves : (p b : List ℕ) → (renumberOf p b .number ≡ 0 → ⊥) → renumberOf p b .out ≡ b
 unfolding renumberOf
-renumber-leaves p b = converted-leaves b (renumberNumber p b) (renumbered p)
+renumber-leaves p b = replaced-leaves b (renumberNumber p b) (renumbered p)
 
 pub to-depths-leaves : (p b : List ℕ) → (toDepthsOf p b .number ≡ 0 → ⊥) → toDepthsOf p b .out ≡ b
 unfolding toDepthsOf
-to-depths-leaves p b = converted-leaves b (toDepthsNumber p b) (depthForm p)
+to-depths-leaves p b = replaced-leaves b (toDepthsNumber p b) (depthForm p)
 
 pub from-depths-leaves : (d b : List ℕ) → (fromDepthsOf d b .number ≡ 0 → ⊥) → fromDepthsOf d b .out ≡ b
 unfolding fromDepthsOf
-from-depths-leaves d b = converted-leaves b (fromDepthsNumber d b) (formPlan d)
+from-depths-leaves d b = replaced-leaves b (fromDepthsNumber d b) (formPlan d)
+
+pub load-leaves : (p : List ℕ) (s c : ℕ) (b : List ℕ) → (loadOf p s c b .number ≡ 0 → ⊥) → loadOf p s c b .out ≡ b
+unfolding loadOf
+load-leaves p s c b = replaced-leaves b (loadNumber p c b) (load (size p) c s)
 
 pub repeat-leaves : (p : List ℕ) (v r : ℕ) (b : List ℕ) → (repeatOf p v r b .number ≡ 0 → ⊥) → (repeatOf p v r b .out ≡ b) × (repeatOf p v r b .nodes ≡ 0)
 unfolding repeatOf

@@ -13,8 +13,8 @@ use Rattle.simulation.proofs.OwnLaws.{own-laid}
 use Rattle.depth_form.proofs.Main.{form-exact}
 use Rattle.desks.proofs.Main.{desk-check-exact}
 use Rattle.refusals.specs.Claim.{RefusalsLeave, AcceptedPass, Demand1}
-use Rattle.refusals.proofs.Leaves.{rewrite-leaves, renumber-leaves, to-depths-leaves, from-depths-leaves, repeat-leaves, next-leaves, depths-leave, guard-leaves, step-left, hear-leaves, simulate-leaves, central-leaves, pass-leaves, impact-leaves, way-leaves, pass-record-leaves, record-leaves, run-leaves, text-leaves, printing-leaves, keep-left, undo-left}
-use Rattle.refusals.proofs.Passes.{common-right, rewrite-passes, from-depths-passes, renumber-passes, to-depths-passes, repeat-later, next-later, depths-pass, guard-passes, step-later, hear-later, central-later, pass-passes, impact-later, way-later, pass-record-passes, record-passes, run-passes}
+use Rattle.refusals.proofs.Leaves.{rewrite-leaves, renumber-leaves, to-depths-leaves, from-depths-leaves, repeat-leaves, next-leaves, load-leaves, depths-leave, guard-leaves, step-left, hear-leaves, simulate-leaves, central-leaves, pass-leaves, impact-leaves, way-leaves, pass-record-leaves, record-leaves, run-leaves, text-leaves, printing-leaves, keep-left, undo-left}
+use Rattle.refusals.proofs.Passes.{common-right, rewrite-passes, from-depths-passes, renumber-passes, to-depths-passes, repeat-later, next-later, load-passes, depths-pass, guard-passes, step-later, hear-later, central-later, pass-passes, impact-later, way-later, pass-record-passes, record-passes, run-passes}
 use Rattle.refusals.proofs.Simulated.{simulate-later}
 use Rattle.refusals.proofs.Journal.{keep-later, undo-later}
 use Rattle.refusals.proofs.Points.{name-leaves, name-later, undo-leaves, back-leaves, point-undo-later, point-back-later}
@@ -28,6 +28,7 @@ refusals-leave = record {
   from-depths = from-depths-leaves;
   repeat = repeat-leaves;
   next-plan = next-leaves;
+  workload = load-leaves;
   check-depths = depths-leave;
   guarded = λ p code node b. guard-leaves b p code node;
   step = λ p code node row. step-left p (siteAt p code node) code node row;
@@ -66,6 +67,7 @@ accepted-pass p ok = record {
   to-depths = to-depths-passes p ok;
   repeat = repeat-later p ok;
   next-plan = next-later p ok;
+  workload = load-passes p ok;
   check-depths = depths-pass p ok;
   guarded = guard-passes p ok;
   step = λ code node row long. step-later p ok code node row long (siteAt p code node);

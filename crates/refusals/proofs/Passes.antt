@@ -12,6 +12,7 @@ use Rattle.lists.proofs.Logic.{cases, decided, and-join}
 use Rattle.plan.specs.Plan.{task, kind, size, isKind}
 use Rattle.plan.specs.Check.{Accepted, fitNumber}
 use Rattle.plan.specs.Made.{Made, made}
+use Rattle.plan.specs.Replaced.{replacedBy}
 use Rattle.plan.proofs.Main.{check-exact, fit-exact}
 use Rattle.event.specs.Event.{eventOf, known, applies}
 use Rattle.event.specs.Site.{Layout, own}
@@ -19,7 +20,7 @@ use Rattle.event.specs.Valid.{eventFault, invalid}
 use Rattle.checker.specs.Depths.{depthsNumber, depthsOf}
 use Rattle.rewrite.specs.Rewrite.{rewriteNumber, rewriteOf}
 use Rattle.trees.specs.Numbering.{inPreorder}
-use Rattle.trees.specs.Renumber.{converted, renumberNumber, renumberOf}
+use Rattle.trees.specs.Renumber.{renumberNumber, renumberOf}
 use Rattle.depth_form.specs.Form.{depthForm, formNumber}
 use Rattle.depth_form.specs.Calls.{toDepthsNumber, toDepthsOf, fromDepthsNumber, fromDepthsOf}
 use Rattle.trees.specs.Tree.{nodeCount}
@@ -27,6 +28,7 @@ use Rattle.template.specs.Repeat.{canMark, repeatedTree}
 use Rattle.template.specs.Call.{timesOk, templateNumber, repeatNumber, repeatOf}
 use Rattle.small_plans.specs.Order.{nextPlan}
 use Rattle.small_plans.specs.Call.{given, nextOf}
+use Rattle.workload.specs.Call.{loadNumber, loadOf}
 use Rattle.guard.specs.Guard.{guard, holds, barred}
 use Rattle.guard.specs.Rule.{ruleByte}
 use Rattle.guard.specs.Bytes.{encode}
@@ -85,11 +87,15 @@ module _ (p : List ℕ) (ok : Accepted p) where
   unfolding renumberOf renumberNumber
   renumber-passes b e = rw (fit (eqb (length b) (length p)) (eq-eqb (length b) (length p) e))
 
+  pub load-passes : (s c : ℕ) (b : List ℕ) → length b ≡ 3 * c → loadOf p s c b .number ≡ 0
+  unfolding loadOf loadNumber
+  load-passes s c b e = rw (fit (eqb (length b) (3 * c)) (eq-eqb (length b) (3 * c) e))
+
   pub to-depths-passes : (b : List ℕ) → length b ≡ length p → toDepthsOf p b .number ≡ cond (inPreorder p) 0 18
   unfolding toDepthsOf toDepthsNumber
   to-depths-passes b e = rw (check-exact p .1 ok, eq-eqb (length b) (length p) e) (go (inPreorder p))
     where
-      go : (t : Bool) → (cond (not (eqb (cond (not t) 18 0) 0)) (converted (cond (not t) 18 0) b) (converted 0 (depthForm p))) .number ≡ cond t 0 18
+      go : (t : Bool) → replacedBy (cond (not t) 18 0) b (depthForm p) .number ≡ cond t 0 18
       go true = refl
       go false = refl
 

@@ -17,6 +17,7 @@ use Rattle.depth_form.specs.Calls.{toDepthsOf, fromDepthsOf}
 use Rattle.depth_form.specs.Claim.{FormExact}
 use Rattle.template.specs.Call.{repeatOf}
 use Rattle.small_plans.specs.Call.{nextOf}
+use Rattle.workload.specs.Call.{loadOf}
 use Rattle.event.specs.Event.{eventOf}
 use Rattle.guard.specs.Guard.{guard}
 use Rattle.guard.specs.Bytes.{encode}
@@ -84,6 +85,8 @@ pub record RefusalsLeave : Type 0 where
   pub repeat : (p : List ℕ) (v r : ℕ) (b : List ℕ) → (repeatOf p v r b .number ≡ 0 → ⊥) → (repeatOf p v r b .out ≡ b) × (repeatOf p v r b .nodes ≡ 0)
   -- vulcedar_next_plan, as that
   pub next-plan : (p b : List ℕ) → (nextOf p b .number ≡ 0 → ⊥) → (nextOf p b .out ≡ b) × (nextOf p b .nodes ≡ 0)
+  -- vulcedar_workload
+  pub workload : (p : List ℕ) (s c : ℕ) (b : List ℕ) → (loadOf p s c b .number ≡ 0 → ⊥) → loadOf p s c b .out ≡ b
   -- vulcedar_check_depths
   pub check-depths : (p d : List ℕ) → (depthsOf p d .number ≡ 0 → ⊥) → depthsOf p d .depths ≡ d
   -- vulcedar_guard
@@ -164,6 +167,8 @@ pub record AcceptedPass (p : List ℕ) : Type 0 where
   pub repeat : (v r : ℕ) (b : List ℕ) → length b ≡ 320 → Later (repeatOf p v r b .number)
   -- vulcedar_next_plan
   pub next-plan : (b : List ℕ) → length b ≡ 10 → Later (nextOf p b .number)
+  -- vulcedar_workload
+  pub workload : (s c : ℕ) (b : List ℕ) → length b ≡ 3 * c → loadOf p s c b .number ≡ 0
   -- vulcedar_check_depths
   pub check-depths : (d : List ℕ) → length d ≡ size p → depthsOf p d .number ≡ 0
   -- vulcedar_guard

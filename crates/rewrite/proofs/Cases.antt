@@ -5,15 +5,16 @@ use Prim.Native.Nat.{ℕ}
 use Rattle.lists.specs.Seq.{keep, upFrom, allBelow, table}
 use Rattle.plan.specs.Plan.{kindOf, size, kindByte, kind, parent, childrenBelow, children, childCount, depthWithin, depth}
 use Rattle.plan.specs.Check.{lengthOk, kindOk, parentOk, underBlock, fits, countOk, depthOk, atAll, checkNumber, fitNumber}
-use Rattle.rewrite.specs.Rewrite.{rewrittenByte, rewritten, Rewrote, rewrote, rewriteNumber, rewriteOf}
+use Rattle.plan.specs.Replaced.{Replaced, replaced}
+use Rattle.rewrite.specs.Rewrite.{rewrittenByte, rewritten, rewriteNumber, rewriteOf}
 
 pub record Case : Type 0 where
   pub plan : List ℕ
   pub lent : List ℕ
-  pub result : Rewrote
+  pub result : Replaced
 
 case : List ℕ → List ℕ → ℕ → List ℕ → Case
-case p out n left = record { plan = p; lent = out; result = rewrote n left }
+case p out n left = record { plan = p; lent = out; result = replaced n left }
 
 pub cases : List Case
 cases =

@@ -7,8 +7,9 @@ use lib.ListN.{length, getD}
 use borrow.Author.Tests.{eq-eqb, ne-eqb, eqb-true}
 use Rattle.lists.proofs.Logic.{cases, decided}
 use Rattle.plan.specs.Check.{fitNumber}
+use Rattle.plan.specs.Replaced.{replaced}
 use Rattle.plan.proofs.FitLaws.{fit-none}
-use Rattle.rewrite.specs.Rewrite.{rewrittenByte, rewritten, rewrote, rewriteNumber, rewriteOf}
+use Rattle.rewrite.specs.Rewrite.{rewrittenByte, rewritten, rewriteNumber, rewriteOf}
 
 -- b is the plan's byte
 module _ (p : List ℕ) (i b : ℕ) (read : b ≡ getD p i 0) where
@@ -24,7 +25,7 @@ module _ (p : List ℕ) (i b : ℕ) (read : b ≡ getD p i 0) where
 
 -- n is what `fit` answered
 module _ (p out : List ℕ) (n : ℕ) (told : n ≡ fitNumber p (eqb (length out) (length p))) where
-  pub rewrite-refused : (n ≡ 0 → ⊥) → rewriteOf p out ≡ rewrote n out
+  pub rewrite-refused : (n ≡ 0 → ⊥) → rewriteOf p out ≡ replaced n out
   unfolding rewriteOf rewriteNumber
   rewrite-refused h = rw (← told, ne-eqb n 0 h)
 
@@ -32,6 +33,6 @@ module _ (p out : List ℕ) (n : ℕ) (told : n ≡ fitNumber p (eqb (length out
     pub rewrite-long : length out ≡ length p
     rewrite-long = eqb-true (length out) (length p) (fit-none p _ (sym told ∙ fine) .1)
 
-    pub rewrite-done : (new : List ℕ) → new ≡ rewritten p → rewriteOf p out ≡ rewrote 0 new
+    pub rewrite-done : (new : List ℕ) → new ≡ rewritten p → rewriteOf p out ≡ replaced 0 new
     unfolding rewriteOf rewriteNumber
     rewrite-done new e = rw (← told, fine, e)

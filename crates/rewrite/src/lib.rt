@@ -3,7 +3,8 @@
 // has a `requires`.
 ghost use mathlib.Core.Path.{_≡_};
 ghost use lib.ListN.{length};
-ghost use Rattle.rewrite.specs.Rewrite.{rewrittenByte, rewritten, rewrote, rewriteOf};
+ghost use Rattle.plan.specs.Replaced.{replaced};
+ghost use Rattle.rewrite.specs.Rewrite.{rewrittenByte, rewritten, rewriteOf};
 
 // Byte i of the rewritten plan.
 fn byte(plan: &[u8], i: usize) -> u8
@@ -27,7 +28,7 @@ fn write(plan: &[u8], out: &mut [u8])
 
 // The rewritten plan, into `out`: 1 to 6 by the check, 7 where `out` has not the plan's length, and 0 where it is written.
 pub fn rewrite(plan: &[u8], out: &mut [u8]) -> u8
-    ensures { λ r. ⌜ rewriteOf (now (plan .entry)) (now (out .entry)) ≡ rewrote r (now (out .exit)) ⌝ }
+    ensures { λ r. ⌜ rewriteOf (now (plan .entry)) (now (out .entry)) ≡ replaced r (now (out .exit)) ⌝ }
 {
     let bad = checker::fit(plan, out.len() == plan.len());
     if bad != 0 {

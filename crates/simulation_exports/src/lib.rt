@@ -1,4 +1,4 @@
-// Exported functions (include/vulcedar.h): a simulation, its journal with named points, and one that is run from a text.
+// Exported functions (include/vulcedar.h): a simulation, its journal with named points, one that is run from a text, and a test load.
 // Nothing else: numbers are 32 bits wide and are not cut, a slice is a pointer and a length, and every length is tested inside. What a result
 // holds is the crate results's.
 ghost use mathlib.Core.Path.{_≡_};
@@ -8,6 +8,7 @@ ghost use lib.ListN.{length, getD, set};
 ghost use Rattle.journal.specs.Journal.{noEntry};
 ghost use Rattle.simulation.specs.Run.{simulateOf};
 ghost use Rattle.script.specs.Script.{runTextInto};
+ghost use Rattle.workload.specs.Call.{loadOf};
 ghost use Rattle.keeping.specs.Keeping.{keepOwn, undoOwn};
 ghost use Rattle.points.specs.Points.{nameOf};
 ghost use Rattle.rewind.specs.Arrays.{entriesOf};
@@ -139,4 +140,12 @@ pub extern "C" fn vulcedar_rehearse(text: &[u8], out: &mut [u8]) -> u32
 {
     let r = script::run_text(text, out);
     results::packed(r.number, 0) + 65536 * (r.length as u32)
+}
+
+#[no_mangle]
+pub extern "C" fn vulcedar_workload(plan: &[u8], seed: u32, count: u32, out: &mut [u8]) -> u32
+    ensures { λ r. ⌜ r ≡ result (loadOf (now (plan .entry)) seed count (now (out .entry)) .number) 0 0 ⌝ }
+    ensures { λ r. ⌜ now (out .exit) ≡ loadOf (now (plan .entry)) seed count (now (out .entry)) .out ⌝ }
+{
+    results::packed(workload::workload(plan, seed, count, out), 0)
 }

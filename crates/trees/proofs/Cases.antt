@@ -7,9 +7,10 @@ use lib.Dec.{eqb}
 use Rattle.lists.specs.Seq.{keep, upFrom, allBelow}
 use Rattle.plan.specs.Plan.{kindOf, size, kindByte, kind, parent, childrenBelow, children, childCount, depthWithin, depth}
 use Rattle.plan.specs.Check.{lengthOk, kindOk, parentOk, underBlock, fits, countOk, depthOk, atAll, checkNumber, fitNumber}
+use Rattle.plan.specs.Replaced.{replaced}
 use Rattle.trees.specs.Tree.{Forest, none, tree, treesOf, belowWithin, treesBelow, treeOf, nodeCount}
 use Rattle.trees.specs.Numbering.{written, renumbered, aboveWithin, isAbove, follows, inPreorder}
-use Rattle.trees.specs.Renumber.{converted, renumberNumber, renumberOf}
+use Rattle.trees.specs.Renumber.{renumberNumber, renumberOf}
 
 -- serial 0: task 1, xor 2 of tasks 3 and 4, task 5
 abbrev P : List ℕ
@@ -138,6 +139,6 @@ calls =
     ∷ refused (2 ∷ 255 ∷ chain 31 0) (nines 9) 6
     ∷ []
 
-calls-right : map (λ k. renumberOf (k .plan) (k .lent)) calls ≡ map (λ k. converted (k .number) (cond (eqb (k .number) 0) (k .new) (k .lent))) calls
+calls-right : map (λ k. renumberOf (k .plan) (k .lent)) calls ≡ map (λ k. replaced (k .number) (cond (eqb (k .number) 0) (k .new) (k .lent))) calls
 unfolding refused passes nines chain calls renumberOf renumberNumber renumbered written treeOf treesBelow belowWithin treesOf nodeCount fitNumber checkNumber lengthOk atAll kindOk parentOk underBlock fits countOk depthOk kindOf size kindByte kind parent childrenBelow children childCount depthWithin depth keep upFrom allBelow
 calls-right = refl

@@ -8,9 +8,10 @@ use lib.ListN.{length}
 use Rattle.plan.specs.Plan.{size, kindByte, children}
 use Rattle.plan.specs.Check.{Ordered, Accepted}
 use Rattle.plan.specs.Under.{Under}
+use Rattle.plan.specs.Replaced.{replaced}
 use Rattle.trees.specs.Tree.{treesOf, treesBelow, treeOf, SameTree, nodeCount}
 use Rattle.trees.specs.Numbering.{renumbered, inPreorder}
-use Rattle.trees.specs.Renumber.{converted, renumberOf}
+use Rattle.trees.specs.Renumber.{renumberOf}
 
 -- CLAIM (R1). What is below a node is its children's trees, in rising number; and the tree has as many nodes as the plan.
 abbrev pub TreeSteps : Type 0
@@ -53,4 +54,4 @@ pub record AsRenumbered (p out q : List ℕ) : Type 0 where
 
 -- CLAIM (R4, R5). A call passes and leaves q just where p is accepted, the lent bytes have its length, and q is the same tree in the fixed numbering.
 abbrev pub RenumberCall : Type 0
-RenumberCall = (p out q : List ℕ) → (renumberOf p out ≡ converted 0 q) ↔ AsRenumbered p out q
+RenumberCall = (p out q : List ℕ) → (renumberOf p out ≡ replaced 0 q) ↔ AsRenumbered p out q

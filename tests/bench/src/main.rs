@@ -1,10 +1,11 @@
 //! Measures each exported function of the C archive against the reference,
-//! a step at a desk against one at a site, and a whole job by simulate: same
+//! a step at a desk against one at a site, a whole job and a test load by simulate: same
 //! inputs, in turn, medians of many rounds. Small plans are all handed in, and the one
 //! whose next takes longest apart. At the end the slowest ways of large plans.
 
 mod fixture;
 mod job;
+mod load;
 mod measure;
 mod slowest;
 mod walk;
@@ -41,9 +42,9 @@ struct Options {
     own_copy: bool,
     /// How often each side is measured.
     rounds: usize,
-    /// Only this function; "next_plan" is the walk over all small plans, "job" the
-    /// whole job, "typing" what an editor waits for, "desks" a step at a desk
-    /// beside one at a site, "slowest" the slowest ways.
+    /// Only this function; "next_plan" is the walk over all small plans, "run_load" a
+    /// test load that is run, "job" the whole job, "typing" what an editor waits for,
+    /// "desks" a step at a desk beside one at a site, "slowest" the slowest ways.
     only: Option<String>,
 }
 
@@ -104,6 +105,9 @@ fn compare(name: &str, subject: &mut impl Implementation, options: &Options) -> 
     }
     if options.wants("desks") {
         compare_desks(name, subject, options.rounds);
+    }
+    if options.wants("run_load") {
+        compare_load(name, subject, options.rounds.div_ceil(10))?;
     }
     if options.wants("job") {
         compare_job(name, subject, options.rounds.div_ceil(10))?;
@@ -196,6 +200,30 @@ fn compare_job(name: &str, subject: &mut impl Implementation, rounds: usize) -> 
         "whole job of {} nodes, {} steps: {name} {:.3} ms, reference {:.3} ms, ratio {:.2}",
         script.nodes(),
         script.steps(),
+        medians.theirs / 1e6,
+        medians.ours / 1e6,
+        medians.ratio()
+    );
+    Ok(())
+}
+
+/// A test load of the largest plan, drawn and run by each side.
+fn compare_load(name: &str, subject: &mut impl Implementation, rounds: usize) -> Result<(), String> {
+    let nodes = SIZES[2];
+    let Fixture { plan, .. } = Fixture::new(nodes);
+    let (mut theirs, mut ours) = (load::Run::new(&plan), load::Run::new(&plan));
+    let first = ours.run(&mut Reference);
+    if theirs.run(subject) != first {
+        return Err("a load does not run alike; run the differential test".to_string());
+    }
+    let medians = in_turn(rounds, 1, || theirs.run(subject).1, || ours.run(&mut Reference).1);
+    let steps = load::STEPS as f64;
+    let each = Medians { theirs: medians.theirs / steps, ours: medians.ours / steps };
+    print_line("run_load step", nodes, &each);
+    println!(
+        "whole load of {nodes} nodes, {} steps ({} pass): {name} {:.3} ms, reference {:.3} ms, ratio {:.2}",
+        load::STEPS,
+        first.0,
         medians.theirs / 1e6,
         medians.ours / 1e6,
         medians.ratio()

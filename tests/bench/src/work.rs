@@ -2,16 +2,18 @@
 //! what a call changed is put back at once. Nothing allocates.
 
 use crate::fixture::{Fixture, PlacedStep, Template};
+use crate::load::{SEED, STEPS};
 use differential::Implementation;
 use differential::driver::Step;
 use differential::implementation::{Change, Entry, Slots, Wanted};
+use differential::loads::STEP_BYTES;
 use differential::slots::{Name, SLOTS};
 use differential::tables::COMMON;
 use differential::texts::OUT_BYTES;
 use std::hint::black_box;
 
 /// The measured functions.
-pub const NAMES: [&str; 36] = [
+pub const NAMES: [&str; 37] = [
     "check",
     "depths",
     "rewrite",
@@ -40,6 +42,7 @@ pub const NAMES: [&str; 36] = [
     "pass_record",
     "central",
     "rehearse",
+    "workload",
     "desk_check",
     "desk_step",
     "desk_simulate",
@@ -88,6 +91,7 @@ pub struct Work {
     rewritten: Vec<u8>,
     repeated: [u8; 320],
     lines: Vec<u8>,
+    load: Vec<u8>,
     entries: Vec<Entry>,
     points: Points,
     /// Points in all slots.
@@ -136,6 +140,7 @@ impl Work {
             rewritten: vec![0; 2 * nodes],
             repeated: [0; 320],
             lines: vec![0; OUT_BYTES],
+            load: vec![0; STEP_BYTES * STEPS],
             entries: vec![[0; 4]; PLACES],
             points: Points::at(&POINTS),
             full: Points::at(&[PLACES / 8; SLOTS]),
@@ -148,7 +153,7 @@ impl Work {
             "check" | "depths" | "rewrite" | "renumber" | "to_depths" | "from_depths" => CALLS,
             "repeat" | "pass" | "record" | "record_by" => CALLS,
             "check_table" | "pass_record" | "point_name" | "point_full" => CALLS,
-            "rehearse" => 1,
+            "rehearse" | "workload" => 1,
             "impact" => 2 * self.fixture.tasks.len(),
             "way" => self.fixture.ways.len(),
             "no_way" => self.fixture.no_ways.len(),
@@ -206,6 +211,11 @@ impl Work {
                 subject.pass_record(plan, &COMMON, &fixture.answers, &mut work.out, &mut work.more)
             }),
             "rehearse" => subject.rehearse(black_box(&self.fixture.text), &mut self.lines),
+            "workload" => {
+                let plan = black_box(&self.fixture.plan);
+                let result = subject.workload(plan, SEED, STEPS as u32, &mut self.load);
+                self.load.iter().step_by(997).fold(result, |sum, &byte| mix(sum, byte.into()))
+            }
             "impact" => self.impacts(subject),
             "way" => self.ways(subject, |fixture| &fixture.ways),
             "no_way" => self.ways(subject, |fixture| &fixture.no_ways),

@@ -221,6 +221,10 @@ impl Implementation for Archive {
         vulcedar::rehearse(text, out)
     }
 
+    fn workload(&mut self, plan: &[u8], seed: u32, count: u32, out: &mut [u8]) -> u32 {
+        vulcedar::workload(plan, seed, count, out)
+    }
+
     fn version(&mut self) -> u32 {
         vulcedar::version()
     }

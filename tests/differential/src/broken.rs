@@ -12,6 +12,7 @@ use crate::texts::{OUT_BYTES, Sound};
 mod desks;
 mod forms;
 mod impact;
+mod load;
 mod points;
 mod repeat;
 mod small;
@@ -808,11 +809,149 @@ pub enum Mistake {
     NodesOfThePlanBefore,
     /// A next plan comes with its number of nodes in the place of a site.
     NextNodesAsASite,
+    /// The generator multiplies by one less.
+    FactorOneLess,
+    /// The generator multiplies by 1,664,325.
+    FactorHasAnotherDigit,
+    /// The generator adds one more.
+    AddendOneMore,
+    /// The generator adds nothing.
+    NothingAdded,
+    /// The generator adds before it multiplies.
+    AddsBefore,
+    /// A product of more than 32 bits becomes the largest number.
+    LargeProductIsTheLargest,
+    /// A sum of more than 32 bits becomes the largest number.
+    LargeSumIsTheLargest,
+    /// The generator keeps 64 bits.
+    AllBitsKept,
+    /// The generator keeps 31 bits.
+    OneBitFewerKept,
+    /// The generator keeps the rest modulo 2^32 - 1.
+    ModuloOneLess,
+    /// The first draw is made from the seed itself, and so on.
+    SeedDrawnFirst,
+    /// A draw is the rest of the division.
+    RestDrawn,
+    /// A draw is the whole number.
+    WholeNumberDrawn,
+    /// A draw has 15 bits.
+    FifteenBitsDrawn,
+    /// A draw is the number divided by 65,535.
+    DividedByOneLess,
+    /// A draw is rounded to the nearest.
+    DrawsRounded,
+    /// Numbers are signed where they are divided.
+    DrawsSigned,
+    /// An event takes three draws.
+    EventTakesThree,
+    /// A step takes five draws.
+    StepTakesFive,
+    /// Every step is drawn from the seed.
+    EachStepFromTheSeed,
+    /// A load goes on where the last one ended, whatever the seed.
+    GeneratorGoesOn,
+    /// Seed 0 counts as 1.
+    SeedZeroIsOne,
+    /// Only the lower 16 bits of a seed count.
+    SeedCut,
+    /// A seed's bytes are read in the other order.
+    SeedBytesReversed,
+    /// The count is added to the seed.
+    CountInTheSeed,
+    /// Seed and count are taken for each other.
+    SeedAndCountSwapped,
+    /// An even first draw is a message.
+    EvenIsAMessage,
+    /// A first draw in the upper half is a message.
+    HighDrawsAreMessages,
+    /// Codes are drawn from 0 to 7.
+    CodesFromZero,
+    /// One is added to the second draw before the division, not behind it.
+    OneAddedFirst,
+    /// Codes are drawn from 1 to 7.
+    SevenCodes,
+    /// Nodes are drawn from 1 on.
+    NodesFromOne,
+    /// Nodes are drawn of 160, whatever the plan has.
+    NodesOfTheLargestPlan,
+    /// Sites are drawn of 160, whatever the plan has.
+    SitesOfTheLargestPlan,
+    /// The last node is never drawn.
+    LastNodeLeftOut,
+    /// The node is the third draw's part of all nodes.
+    NodesScaled,
+    /// Only eight bits of the third draw count.
+    NodeDrawCut,
+    /// Only eight bits of the fourth draw count.
+    SiteDrawCut,
+    /// A message is never for its own node's site.
+    SiteIsNotTheNode,
+    /// The second draw is the node, the third the code.
+    NodeDrawnBeforeCode,
+    /// The third draw is the site, the fourth the node.
+    SiteDrawnBeforeNode,
+    /// A step is written as node, code and site.
+    NodeWrittenFirst,
+    /// A step is written as code, site and node.
+    SiteWrittenBeforeNode,
+    /// An event has the site of its fourth draw.
+    EventReadsItsSite,
+    /// An event has its node for a site.
+    EventAtItsNode,
+    /// An event has 0 for a site.
+    EventAtZero,
+    /// An event has the number of nodes for a site.
+    EventAtTheNodeCount,
+    /// Steps whose code does not apply to the node are left out.
+    UnfitStepsLeftOut,
+    /// Steps that a simulation refuses are left out.
+    RefusedStepsLeftOut,
+    /// A load begins with the second step.
+    FirstStepDropped,
+    /// A load begins with the last step.
+    LastStepFirst,
+    /// The last byte of a load is not written.
+    LastSiteNotWritten,
+    /// For a load 7 is found before what is wrong with the plan.
+    LoadLengthFirst,
+    /// A plan is not looked at for 2 to 6 before a load is drawn.
+    LoadOfAnyPlan,
+    /// A plan is not looked at for 6 before a load is drawn.
+    LoadOfDeepPlans,
+    /// A load's length is worked out in 32 bits.
+    TripleIn32Bits,
+    /// A load's length is compared in 16 bits where it is not the right one.
+    TripleIn16Bits,
+    /// A load is written into more bytes than it has.
+    LoadIntoMore,
+    /// A load is written as far as the bytes go, and that passes.
+    LoadIntoFewer,
+    /// Up to two bytes behind the last step are overlooked.
+    OddBytesOverlooked,
+    /// Any number of whole steps may be lent for a load.
+    AnyWholeSteps,
+    /// A step has four bytes, as a kept one has.
+    FourBytesAStep,
+    /// A load of no step is 7.
+    NoStepRefused,
+    /// A load of more than 65,535 steps is 7.
+    ManyStepsRefused,
+    /// Only the lower 16 bits of a load's count count.
+    StepsCut,
+    /// A load is written as far as the bytes go, and then it is 7.
+    RefusedLoadWrites,
+    /// Where the plan is refused, the bytes for a load become 0.
+    RefusedPlanClears,
+    /// A load comes with its count.
+    LoadAnswersItsCount,
+    /// A load comes with the plan's number of nodes.
+    LoadAnswersItsNodes,
 }
 
 impl Mistake {
     /// All mistakes; the first is number 1.
-    pub const ALL: [Mistake; 390] = [
+    pub const ALL: [Mistake; 459] = [
         Mistake::CommitUnlessAbortHeard,
         Mistake::PickAtTheChild,
         Mistake::TurnedDownStillRuns,
@@ -1203,6 +1342,75 @@ impl Mistake {
         Mistake::NextBytesForNodes,
         Mistake::NodesOfThePlanBefore,
         Mistake::NextNodesAsASite,
+        Mistake::FactorOneLess,
+        Mistake::FactorHasAnotherDigit,
+        Mistake::AddendOneMore,
+        Mistake::NothingAdded,
+        Mistake::AddsBefore,
+        Mistake::LargeProductIsTheLargest,
+        Mistake::LargeSumIsTheLargest,
+        Mistake::AllBitsKept,
+        Mistake::OneBitFewerKept,
+        Mistake::ModuloOneLess,
+        Mistake::SeedDrawnFirst,
+        Mistake::RestDrawn,
+        Mistake::WholeNumberDrawn,
+        Mistake::FifteenBitsDrawn,
+        Mistake::DividedByOneLess,
+        Mistake::DrawsRounded,
+        Mistake::DrawsSigned,
+        Mistake::EventTakesThree,
+        Mistake::StepTakesFive,
+        Mistake::EachStepFromTheSeed,
+        Mistake::GeneratorGoesOn,
+        Mistake::SeedZeroIsOne,
+        Mistake::SeedCut,
+        Mistake::SeedBytesReversed,
+        Mistake::CountInTheSeed,
+        Mistake::SeedAndCountSwapped,
+        Mistake::EvenIsAMessage,
+        Mistake::HighDrawsAreMessages,
+        Mistake::CodesFromZero,
+        Mistake::OneAddedFirst,
+        Mistake::SevenCodes,
+        Mistake::NodesFromOne,
+        Mistake::NodesOfTheLargestPlan,
+        Mistake::SitesOfTheLargestPlan,
+        Mistake::LastNodeLeftOut,
+        Mistake::NodesScaled,
+        Mistake::NodeDrawCut,
+        Mistake::SiteDrawCut,
+        Mistake::SiteIsNotTheNode,
+        Mistake::NodeDrawnBeforeCode,
+        Mistake::SiteDrawnBeforeNode,
+        Mistake::NodeWrittenFirst,
+        Mistake::SiteWrittenBeforeNode,
+        Mistake::EventReadsItsSite,
+        Mistake::EventAtItsNode,
+        Mistake::EventAtZero,
+        Mistake::EventAtTheNodeCount,
+        Mistake::UnfitStepsLeftOut,
+        Mistake::RefusedStepsLeftOut,
+        Mistake::FirstStepDropped,
+        Mistake::LastStepFirst,
+        Mistake::LastSiteNotWritten,
+        Mistake::LoadLengthFirst,
+        Mistake::LoadOfAnyPlan,
+        Mistake::LoadOfDeepPlans,
+        Mistake::TripleIn32Bits,
+        Mistake::TripleIn16Bits,
+        Mistake::LoadIntoMore,
+        Mistake::LoadIntoFewer,
+        Mistake::OddBytesOverlooked,
+        Mistake::AnyWholeSteps,
+        Mistake::FourBytesAStep,
+        Mistake::NoStepRefused,
+        Mistake::ManyStepsRefused,
+        Mistake::StepsCut,
+        Mistake::RefusedLoadWrites,
+        Mistake::RefusedPlanClears,
+        Mistake::LoadAnswersItsCount,
+        Mistake::LoadAnswersItsNodes,
     ];
 }
 
@@ -1214,13 +1422,14 @@ pub struct Broken {
     last_table: [u8; 12],
     /// What is taken for all small plans.
     small: small::List,
+    loads: load::Loads,
 }
 
 impl Broken {
     /// A copy with this mistake.
     pub fn new(mistake: Mistake) -> Broken {
-        let small = small::List::new(mistake);
-        Broken { mistake, honest: Reference, has_passed: false, last_table: tables::COMMON, small }
+        let (small, loads) = (small::List::new(mistake), load::Loads::new(mistake));
+        Broken { mistake, honest: Reference, has_passed: false, last_table: tables::COMMON, small, loads }
     }
 
     fn cut(&self, number: u32) -> u32 {
@@ -2070,6 +2279,10 @@ impl Implementation for Broken {
             }
             (_, None) => put(&lines, out),
         }
+    }
+
+    fn workload(&mut self, plan: &[u8], seed: u32, count: u32, out: &mut [u8]) -> u32 {
+        self.loads.workload(plan, seed, count, out)
     }
 
     fn version(&mut self) -> u32 {

@@ -10,6 +10,7 @@ use crate::trial::{Trial, hex};
 mod desks;
 mod forms;
 mod impact;
+mod load;
 mod points;
 mod repeat;
 mod small;
@@ -51,12 +52,13 @@ pub fn run<S: Implementation, R: Implementation>(trial: &mut Trial<S, R>) {
     forms::run(trial);
     repeat::run(trial);
     small::run(trial);
+    load::run(trial);
 }
 
-/// Version 1.8.0.
+/// Version 1.9.0.
 fn version<S: Implementation, R: Implementation>(trial: &mut Trial<S, R>) {
     let version = trial.version();
-    trial.tally.compare(version == 0x01_0800, || format!("the version is {version:08x}"));
+    trial.tally.compare(version == 0x01_0900, || format!("the version is {version:08x}"));
 }
 
 /// A guard: the event, its rule, and what must be written.

@@ -180,6 +180,8 @@ pub trait Implementation {
     ) -> u32;
     /// A simulation from text.
     fn rehearse(&mut self, text: &[u8], out: &mut [u8]) -> u32;
+    /// Writes a test load.
+    fn workload(&mut self, plan: &[u8], seed: u32, count: u32, out: &mut [u8]) -> u32;
     /// The version.
     fn version(&mut self) -> u32;
     /// What the program prints for each of these texts.
@@ -397,6 +399,10 @@ impl Implementation for Reference {
 
     fn rehearse(&mut self, text: &[u8], out: &mut [u8]) -> u32 {
         exported::rehearse(text, out)
+    }
+
+    fn workload(&mut self, plan: &[u8], seed: u32, count: u32, out: &mut [u8]) -> u32 {
+        exported::workload(plan, seed, count, out)
     }
 
     fn version(&mut self) -> u32 {

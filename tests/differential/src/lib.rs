@@ -13,7 +13,7 @@
 //!   [`run`] puts them in turn.
 //! * [`form`] has the two forms of plans, plain and with desks, in which most of
 //!   these are run; [`slots`] has what the rules say of points, and names for
-//!   them.
+//!   them, and [`loads`] what they say of test loads.
 //! * [`broken`] has copies of the reference with one mistake each, to show
 //!   that the comparison can fail.
 
@@ -30,6 +30,7 @@ pub mod implementation;
 pub mod job;
 pub mod journals;
 pub mod lent;
+pub mod loads;
 pub mod plans;
 pub mod program;
 pub mod random;

@@ -29,6 +29,8 @@ pub const SMALL_FORMS_PART: u64 = ONLY_CHILD_PART + 4;
 pub const SMALL_TEMPLATES_PART: u64 = ONLY_CHILD_PART + 5;
 /// The part with all small plans, one after another.
 pub const WALK_PART: u64 = ONLY_CHILD_PART + 6;
+/// The place of the parts with test loads, behind a simulation.
+pub const LOADS_PART: u64 = 14;
 /// The place of the parts in which small plans come one after another, behind a
 /// simulation.
 pub const NEXT_PLANS_PART: u64 = 15;
@@ -79,8 +81,8 @@ const FIRST_TEXT_PART: u64 = 1 << 40;
 pub struct Options {
     /// All random numbers come from this.
     pub seed: u64,
-    /// At least so many calls of simulate and step, those with desks not
-    /// counted.
+    /// At least so many calls of simulate and step, those with desks and those of
+    /// test loads not counted.
     pub steps: u64,
     /// At least so many texts.
     pub texts: u64,
@@ -181,11 +183,15 @@ fn run_part<S: Implementation, R: Implementation>(trial: &mut Trial<S, R>, seed:
         WAYS_PART => calls::ways(trial, random, &plan),
         7 => job::simulate(trial, random, &plan),
         8 | 9 => jobs(trial, random, 20, 60, 1),
+        LOADS_PART => {
+            jobs(trial, random, 8, 20, 1);
+            calls::workloads(trial, random, &plan);
+        }
         NEXT_PLANS_PART => {
             jobs(trial, random, 8, 20, 1);
             calls::next_plans(trial, random, &plan);
         }
-        10..=14 => jobs(trial, random, 8, 20, 1),
+        10..=13 => jobs(trial, random, 8, 20, 1),
         TEMPLATES_PART.. => {
             jobs(trial, random, 1, 8, 6);
             calls::repeats(trial, random, &plan);

@@ -80,6 +80,8 @@ pub enum Function {
     DeskRecordBy,
     /// `vulcedar_rehearse`
     Rehearse,
+    /// `vulcedar_workload`
+    Workload,
     /// `vulcedar_version`
     Version,
     /// The program `rehearse`; a refused plan or text counts once, otherwise
@@ -88,7 +90,7 @@ pub enum Function {
 }
 
 /// How many functions there are.
-const FUNCTIONS: usize = 38;
+const FUNCTIONS: usize = 39;
 /// One more than the highest number; 0 is passed.
 const NUMBERS: usize = 31;
 
@@ -131,6 +133,7 @@ impl Function {
         Function::DeskRecord,
         Function::DeskRecordBy,
         Function::Rehearse,
+        Function::Workload,
         Function::Version,
         Function::Program,
     ];
@@ -174,6 +177,7 @@ impl Function {
             Function::DeskRecord => "desk_record",
             Function::DeskRecordBy => "desk_record_by",
             Function::Rehearse => "rehearse",
+            Function::Workload => "workload",
             Function::Version => "version",
             Function::Program => "program",
         }
@@ -194,9 +198,8 @@ impl Function {
             Function::Undo | Function::PointUndo => &[0, 1, 2, 3, 4, 5, 6, 7, 8, 9, 16],
             Function::PointName => &[0, 7, 20],
             Function::PointBack => &[0, 1, 2, 3, 4, 5, 6, 7, 8, 9, 19],
-            Function::Rewrite | Function::Renumber | Function::Record | Function::CheckDepths => {
-                &[0, 1, 2, 3, 4, 5, 6, 7]
-            }
+            Function::Rewrite | Function::Renumber | Function::Record => &[0, 1, 2, 3, 4, 5, 6, 7],
+            Function::CheckDepths | Function::Workload => &[0, 1, 2, 3, 4, 5, 6, 7],
             Function::ToDepths => &[0, 1, 2, 3, 4, 5, 6, 7, 18],
             Function::FromDepths => &[0, 1, 2, 4, 5, 6, 7, 17],
             Function::Repeat => &[0, 1, 2, 3, 4, 5, 6, 7, 8, 23, 24, 25],
@@ -305,6 +308,14 @@ pub struct Jobs {
     pub of_new_size: u64,
     /// Walks over all small plans, from what was written each time.
     pub walks: u64,
+    /// Test loads that were written.
+    pub loads: u64,
+    /// Counts of which three times as much has the lent length in 32 bits alone.
+    pub wrapping_counts: u64,
+    /// Steps of the subject's loads that were run.
+    pub load_steps: u64,
+    /// Of these, passed.
+    pub load_passed: u64,
 }
 
 /// A count for each rule byte.
@@ -389,9 +400,10 @@ impl Tally {
         &self.described
     }
 
-    /// Calls of simulate and step so far.
+    /// Calls of simulate and step so far, but for the steps of test loads, which come beside
+    /// the others.
     pub fn steps(&self) -> u64 {
-        self.calls(Function::Simulate) + self.calls(Function::Step)
+        self.calls(Function::Simulate) + self.calls(Function::Step) - self.jobs.load_steps
     }
 
     /// The same with desks.
@@ -497,6 +509,11 @@ impl fmt::Display for Tally {
             out,
             "small plans: {} came next, {} of these the first of their size; walks over all of them: {}",
             jobs.next_plans, jobs.of_new_size, jobs.walks
+        )?;
+        writeln!(
+            out,
+            "test loads: {} written, {} counts that wrap in 32 bits; {} steps run, {} of these passed",
+            jobs.loads, jobs.wrapping_counts, jobs.load_steps, jobs.load_passed
         )?;
         writeln!(out, "rules of passed events: {} different", self.rules())?;
         writeln!(out, "texts: {}", self.texts)?;

@@ -46,13 +46,33 @@ pub fn calls<S: Implementation, R: Implementation>(
             trial.rehearse(&text, &random.bytes(length));
         }
         let sound = Sound::any(random);
-        let text = sound.text();
-        let called = lines_of_call(trial, random, &text);
-        let expected = sound.lines(&mut trial.subject);
-        trial
-            .tally
-            .compare(called == expected, || format!("steps, call: {}", describe(&text, &expected, &called)));
+        call_sound(trial, random, &sound);
     }
+}
+
+/// Gives the call a text with these steps.
+pub fn call_steps<S: Implementation, R: Implementation>(
+    trial: &mut Trial<S, R>,
+    random: &mut Random,
+    plan: &[u8],
+    steps: Vec<[u8; 3]>,
+) {
+    let table = random.chance(40).then(|| tables::sound(random));
+    call_sound(trial, random, &Sound { table, plan: plan.to_vec(), steps });
+}
+
+/// The lines of a sound text are what the subject's own steps and record come to.
+fn call_sound<S: Implementation, R: Implementation>(
+    trial: &mut Trial<S, R>,
+    random: &mut Random,
+    sound: &Sound,
+) {
+    let text = sound.text();
+    let called = lines_of_call(trial, random, &text);
+    let expected = sound.lines(&mut trial.subject);
+    trial
+        .tally
+        .compare(called == expected, || format!("steps, call: {}", describe(&text, &expected, &called)));
 }
 
 /// What the program must print by what the subject's call answers.

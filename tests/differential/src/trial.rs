@@ -12,6 +12,7 @@ use crate::tally::{Function, Tally};
 
 mod forms;
 mod impact;
+mod load;
 mod points;
 mod repeat;
 mod small;

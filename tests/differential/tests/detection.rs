@@ -8,7 +8,7 @@ use differential::run::{DESK_JOBS_PART, DESK_MOVES_PART, DESK_POINTS_PART, ONE_D
 use differential::run::{
     FORMS_PART, IMPACT_PART, SMALL_FORMS_PART, SMALL_PLANS_PART, TARGETS_PART, WAYS_PART,
 };
-use differential::run::{NEXT_PLANS_PART, SMALL_TEMPLATES_PART, TEMPLATES_PART, WALK_PART};
+use differential::run::{LOADS_PART, NEXT_PLANS_PART, SMALL_TEMPLATES_PART, TEMPLATES_PART, WALK_PART};
 use differential::run::{Options, run, run_against};
 use differential::tally::Tally;
 
@@ -49,15 +49,21 @@ fn of_templates() -> impl Iterator<Item = Mistake> {
     before_small.skip_while(|&mistake| mistake != Mistake::SerialsRepeated)
 }
 
-/// The mistakes where a small plan comes next; they stand at the end.
+/// The mistakes where a small plan comes next.
 fn of_small_plans() -> impl Iterator<Item = Mistake> {
-    Mistake::ALL.into_iter().skip_while(|&mistake| mistake != Mistake::BytesAlone)
+    let before_loads = Mistake::ALL.into_iter().take_while(|&mistake| mistake != Mistake::FactorOneLess);
+    before_loads.skip_while(|&mistake| mistake != Mistake::BytesAlone)
+}
+
+/// The mistakes of test loads; they stand at the end.
+fn of_loads() -> impl Iterator<Item = Mistake> {
+    Mistake::ALL.into_iter().skip_while(|&mistake| mistake != Mistake::FactorOneLess)
 }
 
 /// The mistakes of the later calls, which have parts of their own.
 fn of_later_calls() -> impl Iterator<Item = Mistake> {
     let before_forms = of_points().chain(of_desks()).chain(of_impact()).chain(of_ways());
-    before_forms.chain(of_forms()).chain(of_templates()).chain(of_small_plans())
+    before_forms.chain(of_forms()).chain(of_templates()).chain(of_small_plans()).chain(of_loads())
 }
 
 /// These parts find nothing between two copies of the reference, in each of
@@ -107,6 +113,8 @@ fn two_copies_of_the_reference_agree() {
     assert!(tally.jobs.just_full > 50 && tally.jobs.one_too_many > 50, "{}", tally.jobs.just_full);
     assert!(tally.jobs.next_plans > 10_000 && tally.jobs.of_new_size > 50, "{}", tally.jobs.next_plans);
     assert_eq!(tally.jobs.walks, 1);
+    assert!(tally.jobs.loads > 1000 && tally.jobs.wrapping_counts > 100, "{}", tally.jobs.loads);
+    assert!(tally.jobs.load_steps > 20_000 && tally.jobs.load_passed > 1000, "{}", tally.jobs.load_passed);
 }
 
 #[test]
@@ -219,7 +227,7 @@ fn a_mistake_on_both_sides_is_found() {
 fn cases_have_their_answers() {
     let options = Options { only: Some(CASES_PART), ..Options::default() };
     let tally = run(Reference, options);
-    assert_eq!((tally.comparisons(), tally.differences()), (1250, 0), "{:#?}", tally.described());
+    assert_eq!((tally.comparisons(), tally.differences()), (1556, 0), "{:#?}", tally.described());
     let mistakes = [
         Mistake::VersionInTheLowestByte,
         Mistake::VersionOneHigher,
@@ -616,6 +624,14 @@ fn every_small_plan_comes_once() {
         let tally = run_against(Broken::new(mistake), Broken::new(mistake), options);
         assert_ne!(tally.differences(), 0, "{mistake:?} on both sides is not found");
     }
+}
+
+/// Test loads alone find what is wrong with them, even if both sides do it: by each step's
+/// place.
+#[test]
+fn loads_are_held_against_their_places() {
+    let mistakes: Vec<Mistake> = of_loads().collect();
+    parts_find([LOADS_PART, 20], 29, |tally| tally.jobs.load_steps, &mistakes);
 }
 
 /// Trying every row of an only child finds a turn-down that passes, and

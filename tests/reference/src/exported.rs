@@ -16,7 +16,7 @@ use crate::site::Verdict;
 use crate::table::Table;
 use crate::way as ways;
 use crate::{central as central_rule, desks, forms, guard as guards, journal as journals};
-use crate::{impact as impacts, pass as passes, plan, points, small};
+use crate::{impact as impacts, load, pass as passes, plan, points, small};
 use crate::{rewrite as rewriting, rule as rules, simulate as simulation, site as sites, text as texts};
 
 /// The number in a packed result.
@@ -336,10 +336,16 @@ pub fn rehearse(text: &[u8], out: &mut [u8]) -> u32 {
     }
 }
 
-/// The version of these calls, a byte each for its three numbers: 1.8.0.
+/// Writes a test load: as many steps as the count says, drawn from the seed. 1 to 7.
+#[inline(never)]
+pub fn workload(plan: &[u8], seed: u32, count: u32, out: &mut [u8]) -> u32 {
+    done(load::workload(plan, seed, count, out))
+}
+
+/// The version of these calls, a byte each for its three numbers: 1.9.0.
 #[inline(never)]
 pub fn version() -> u32 {
-    (1 << 16) + (8 << 8)
+    (1 << 16) + (9 << 8)
 }
 
 /// The central rule; the value is 1 if the event was allowed. 1 to 9.

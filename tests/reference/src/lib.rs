@@ -27,6 +27,7 @@ pub mod impact;
 pub mod journal;
 pub mod layout;
 pub mod lists;
+pub mod load;
 pub mod mark;
 pub mod pass;
 pub mod plan;

@@ -48,6 +48,7 @@ fn exported_functions_do_not_allocate() {
     sum += exported::from_depths(&[2, 1, 1, 2], &mut buffer[..4]);
     sum += exported::repeat(&[3, 0xff, 1, 0], 0, 32, &mut [0; 320]);
     sum += exported::next_plan(&[3, 0xff, 1, 0], &mut buffer[..10]);
+    sum += exported::workload(&plan, 1, 100, &mut buffer);
     for code in 0..10 {
         for node in 0..7 {
             sum += exported::guard(&plan, code, node, &mut buffer);

@@ -487,6 +487,12 @@ pub fn rehearse(text: &[u8], out: &mut [u8]) -> u32 {
     unsafe { raw::vulcedar_rehearse(text.as_ptr(), text.len(), out.as_mut_ptr(), out.len()) }
 }
 
+/// Writes a test load: as many steps as the count says, drawn from the seed.
+pub fn workload(plan: &[u8], seed: u32, count: u32, out: &mut [u8]) -> u32 {
+    // SAFETY: as for `rewrite`.
+    unsafe { raw::vulcedar_workload(plan.as_ptr(), plan.len(), seed, count, out.as_mut_ptr(), out.len()) }
+}
+
 /// The version of the archive: a byte each for its three numbers.
 pub fn version() -> u32 {
     raw::vulcedar_version()

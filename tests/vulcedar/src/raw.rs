@@ -308,6 +308,15 @@ unsafe extern "C" {
 
     pub fn vulcedar_rehearse(text: *const u8, text_length: usize, out: *mut u8, out_length: usize) -> u32;
 
+    pub fn vulcedar_workload(
+        plan: *const u8,
+        plan_length: usize,
+        seed: u32,
+        count: u32,
+        out: *mut u8,
+        out_length: usize,
+    ) -> u32;
+
     pub safe fn vulcedar_version() -> u32;
 
     pub fn vulcedar_central(
