@@ -11,6 +11,8 @@
 //                             for I it is the new answer and the node the task, for Y the code is the mark and the site the end,
 //                             for X the code is the count and the node the marked one, for U the code is the count and node and site the
 //                             two halves of the seed; small letters are the calls of the line, and for m the bytes handed over are the other row
+#![tactic(auto)]
+
 mod calls;
 mod item;
 mod say;

@@ -1,6 +1,8 @@
 // The central rule as a function: over lent marks and notes, one byte a node each, it answers whether an event is allowed, and advances the
 // bytes if so. What the rule is stands in specs/Central.antt, what the function answers in specs/Rule.antt: one equation for the answer
 // and every lent byte. That it replays just the runs is the claim of specs/Replay.antt. No public function has a `requires`.
+#![tactic(auto)]
+
 ghost use Rattle.std.specs.Prelude.{◌≡◌, true, ◌&&◌, not, ◌<◌, ◌≤◌, length, get_or};
 ghost use Rattle.lists.specs.Seq.{all, any};
 ghost use Rattle.plan.specs.Plan.{size, kind, parent, children, children_below};

@@ -1,5 +1,7 @@
 // The check of a plan, as code. What it answers and accepts is specs/Check.antt of the crate plan, its second form specs/Depths.antt. Both forms
 // are linear in the nodes. The two reads at a node and test 4 at a node ask that there is such a node; no other public function has a `requires`.
+#![tactic(auto)]
+
 ghost use Rattle.std.specs.Prelude.{◌≡◌, ◌<◌, length, replicate};
 ghost use Rattle.lists.specs.Seq.{table};
 ghost use Rattle.plan.specs.Plan.{kind_of, size, kind_byte, parent, child_count, depth};

@@ -1,6 +1,8 @@
 // The forms of a plan, as code: a plan renumbered, a plan as a depth form, and a depth form as a plan. What each call answers and leaves is
 // specs/Renumber.antt of the crate trees and specs/Calls.antt of the crate depth_form. No public function has a `requires`; each is linear in
 // the nodes, and a refused call leaves the lent bytes.
+#![tactic(auto)]
+
 ghost use Rattle.std.specs.Prelude.{◌≡◌, true, ◌<◌, length};
 ghost use Rattle.plan.specs.Plan.{size};
 ghost use Rattle.plan.specs.Check.{length_ok, at_all, Accepted};

@@ -1,5 +1,7 @@
 // The calls on plans with desks: each checks its plan, takes it apart into its plain plan and the two tables of its layout (the crate desk_layout), and
 // hands these to the functions for any layout of rows. What the calls mean is the crate desks's. No public function has a `requires`.
+#![tactic(auto)]
+
 ghost use Rattle.std.specs.Prelude.{◌≡◌, true};
 ghost use Rattle.event.specs.Event.{known};
 ghost use Rattle.retention.specs.Record.{recorded};

@@ -1,6 +1,8 @@
 // Exported functions (include/vulcedar.h): plans with desks.
 // Nothing else: numbers are 32 bits wide and are not cut, a slice is a pointer and a length, and every length is tested inside. What a result
 // holds is the crate results's.
+#![tactic(auto)]
+
 ghost use Rattle.std.specs.Prelude.{◌≡◌, List, ◌-◌, length, get_or, set};
 ghost use Rattle.journal.specs.Journal.{no_entry};
 ghost use Rattle.rewind.specs.Arrays.{entries_of};

@@ -1,6 +1,8 @@
 // A plan with desks, checked and taken apart: its plain plan and the two tables of its layout, in arrays that the caller lends. The calls on such plans
 // build on this. What is prepared is specs/Tables.antt. Of the public functions `check_into` and `prepare` have a `requires`: how long the lent arrays are,
 // and that no desk is marked yet.
+#![tactic(auto)]
+
 ghost use Rattle.std.specs.Prelude.{◌≡◌, true, cond, ℕ, ◌+◌, ◌*◌, ◌≤◌, ◌<◌, eqb, leb, length, take, replicate};
 ghost use Rattle.lists.specs.Seq.{table};
 ghost use Rattle.desks.specs.Desk.{nodes, desk_of, plain, threes, desks_low, desk_check, DeskAccepted, used};

@@ -1,5 +1,7 @@
 // Events of a plan: which are known and apply, at whose site they happen, their bits in a byte, and the tests with which every call on an
 // event begins. What the words mean is specs/; one public function, `fault`, has a `requires`: its caller has checked the plan.
+#![tactic(auto)]
+
 ghost use Rattle.std.specs.Prelude.{◌≡◌, ◌<◌, ◌≤◌};
 ghost use Rattle.plan.specs.Plan.{kind_of, xor, is_kind, size};
 ghost use Rattle.event.specs.Event.{code_of, event_of, applies_by, applies, known};

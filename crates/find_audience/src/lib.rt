@@ -1,5 +1,7 @@
 // Whom to tell of an event (rules V): the sites whose guards name it, written to the front of lent bytes, rising. Who they are, and what the call
 // answers and leaves, is the crate audience's. No public function has a `requires`: bad input is refused.
+#![tactic(auto)]
+
 ghost use Rattle.std.specs.Prelude.{◌≡◌, true, ◌<◌, ◌≤◌, length};
 ghost use Rattle.lists.specs.Seq.{head_or};
 ghost use Rattle.lists.specs.Put.{Put};

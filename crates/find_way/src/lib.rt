@@ -5,6 +5,8 @@
 // The answers are fixed node by node, at each node the first byte with which some answers still lead there. Whether some do is known
 // from a table: which marks each node can get, by those that its children can get. A byte tried at a node changes the table only on
 // the path from that node up to the root, and there only up to the first node that can get what it could before.
+#![tactic(auto)]
+
 ghost use Rattle.std.specs.Prelude.{◌≡◌, cond, ℕ, ◌<◌, ◌+◌, length, get_or};
 ghost use Rattle.lists.specs.Member.{In};
 ghost use Rattle.plan.specs.Plan.{size, kind_byte, children};

@@ -1,6 +1,8 @@
 // Exported functions (include/vulcedar.h): plans that are written, from an older one, another editor's, a template or the small plan before.
 // Nothing else: numbers are 32 bits wide and are not cut, a slice is a pointer and a length, and every length is tested inside. What a result
 // holds is the crate results's.
+#![tactic(auto)]
+
 ghost use Rattle.std.specs.Prelude.{◌≡◌};
 ghost use Rattle.rewrite.specs.Rewrite.{rewrite_of};
 ghost use Rattle.trees.specs.Renumber.{renumber_of};

@@ -1,6 +1,8 @@
 // The guard of an event: what it has to wait for at its site. What a guard is stands in specs/Guard.antt, its bytes in specs/Bytes.antt. It is
 // tried and written by its shape (`table`, specs/Shape.antt) over the nodes that it names (`family`, specs/Family.antt); the rule behind it is a
 // byte (`rule_byte`, specs/Rule.antt). No public function has a `requires`.
+#![tactic(auto)]
+
 pub mod family;
 pub mod rule_byte;
 pub mod table;

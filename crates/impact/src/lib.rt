@@ -1,6 +1,8 @@
 // One answer changed: the marks of a pass follow another result of one task. What the call answers and leaves is
 // `impact_into` in specs/Impact.antt of the crate reach, which also claims how far a change can go. The public function has no `requires`; a
 // refused call leaves the marks.
+#![tactic(auto)]
+
 ghost use Rattle.std.specs.Prelude.{◌≡◌, ◌<◌, ◌≤◌, eqb, length, get_or, set};
 ghost use Rattle.lists.specs.Seq.{all_below};
 ghost use Rattle.plan.specs.Plan.{size};

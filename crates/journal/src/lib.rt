@@ -1,5 +1,7 @@
 // The journal of a simulation: the entries that the caller lends, one of them stored and one of them read. What keeping a step and taking it back
 // mean is specs/Journal.antt; what holds of every list of both is specs/Session.antt. No public function has a `requires`.
+#![tactic(auto)]
+
 ghost use Rattle.std.specs.Prelude.{◌≡◌, ◌-◌, ltb, length, get_or, set};
 ghost use Rattle.journal.specs.Journal.{no_entry};
 

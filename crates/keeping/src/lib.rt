@@ -1,6 +1,8 @@
 // A step kept in the journal, and the last one taken back, as code: what they are made of for any layout of rows (`is_repeat`, `kept_by`, `entry_fault`,
 // `take_back`, whose callers have checked the plan and the lengths), and both on a plan of two bytes a node (`keep`, `undo`, which check them). The
 // entries themselves are the caller's: a function here answers where an entry goes, or is handed the last one (specs/Keeping.antt).
+#![tactic(auto)]
+
 ghost use Rattle.std.specs.Prelude.{◌≡◌, false, cond, ℕ, ◌+◌, ◌*◌, ◌<◌, ◌≤◌, length, List};
 ghost use Rattle.plan.specs.Plan.{size};
 ghost use Rattle.event.specs.Site.{own};

@@ -1,5 +1,7 @@
 // The simulation over any layout of rows, written once: a step, and the marks. A layout is two tables of bytes (specs/Layout.antt); empty ones give
 // every node its own row. What a step means is the crate job's. Callers have checked the plan and the state's length before (`Laid`).
+#![tactic(auto)]
+
 ghost use Rattle.std.specs.Prelude.{◌≡◌, ◌+◌, ◌*◌, ◌<◌, length};
 ghost use Rattle.lists.specs.Seq.{table};
 ghost use Rattle.plan.specs.Plan.{size};

@@ -1,5 +1,7 @@
 // Exported functions (include/vulcedar.h): whom to tell of an event, and rows merged. Nothing else: numbers are 32 bits wide and are not cut, a slice
 // is a pointer and a length, and every length is tested inside. What a result holds is the crate results's.
+#![tactic(auto)]
+
 ghost use Rattle.std.specs.Prelude.{◌≡◌};
 ghost use Rattle.results.specs.Result.{of_output};
 ghost use Rattle.audience.specs.Call.{audience_of};

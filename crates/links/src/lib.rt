@@ -1,4 +1,6 @@
 // Who is whose child, as two arrays: a walk over the children of a node follows them. What they hold is specs/Links.antt.
+#![tactic(auto)]
+
 ghost use Rattle.std.specs.Prelude.{◌≡◌, replicate};
 ghost use Rattle.plan.specs.Check.{Accepted};
 ghost use Rattle.links.specs.Links.{Linked};

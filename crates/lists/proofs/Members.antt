@@ -16,7 +16,7 @@ module _ {A : Type 0} where
   pub in-none : {x : A} → In x [] → ⊥
   in-none = elim [ ]
 
-  pub all-at : (f : A → Bool) {xs : List A} {x : A} → In x xs → all f xs ≡ true → f x ≡ true
+  pub all-at : (f : A → Bool) {x : A} {xs : List A} → In x xs → all f xs ≡ true → f x ≡ true
   unfolding all
   all-at f (here {y = y} {xs = xs} q) h = ap f q ∙ and_left (f y) (all f xs) h
   all-at f (there {y = y} {xs = xs} i) h = all-at f i (and_right (f y) (all f xs) h)
@@ -36,7 +36,7 @@ module _ {A : Type 0} where
   any_same f g [] h = refl
   any_same f g (x ∷ xs) h = ap₂ ◌||◌ (h x (here refl)) (any_same f g xs (λ y i. h y (there i)))
 
-  pub any-by : (f : A → Bool) {xs : List A} {x : A} → In x xs → f x ≡ true → any f xs ≡ true
+  pub any-by : (f : A → Bool) {x : A} {xs : List A} → In x xs → f x ≡ true → any f xs ≡ true
   unfolding any
   any-by f (here q) h = rw (← q, h)
   any-by f (there {y = y} {xs = xs} i) h = (either (f y) (any f xs)).1 (inr (any-by f i h))
@@ -56,6 +56,7 @@ module _ {A : Type 0} where
 
   pub keep-in : (f : A → Bool) (xs : List A) {x : A} → In x (keep f xs) → In x xs × (f x ≡ true)
   unfolding keep
+  keep-in f [] {x = x} i = elim i [ ]
   keep-in f (y ∷ xs) {x} i = go (f y) refl (keep-in f xs) i
     where
       go : (b : Bool) → f y ≡ b → (In x (keep f xs) → In x xs × (f x ≡ true)) → In x (cond b (y ∷ keep f xs) (keep f xs)) →
@@ -64,7 +65,7 @@ module _ {A : Type 0} where
       go true e k (there j) = (there (k j).0, (k j).1)
       go false e k j = (there (k j).0, (k j).1)
 
-  pub in-keep : (f : A → Bool) {xs : List A} {x : A} → In x xs → f x ≡ true → In x (keep f xs)
+  pub in-keep : (f : A → Bool) {x : A} {xs : List A} → In x xs → f x ≡ true → In x (keep f xs)
   unfolding keep
   in-keep f (here q) h = rw (← q, h) (here refl)
   in-keep f {x = x} (there {y = y} {xs = xs} i) h = go (f y) (in-keep f i h)
@@ -103,6 +104,7 @@ any_append f (x ∷ xs) ys = go (f x) (any_append f xs ys)
     go false h = h
 
 pub rising-above : {d : ℕ} {cs : List ℕ} {v : ℕ} → Rising d cs → In v cs → d < v
+rising-above {v = v} (end {d = d}) x4 = elim x4 [ ]
 rising-above (next h r) (here q) = omega arith
 rising-above (next h r) (there i) = let k = rising-above r i in omega arith
 
@@ -136,6 +138,7 @@ in-up from (suc count) v h k = go (decided (eqb v from)) (in-up (suc from) count
 
 pub up_in : (from count : ℕ) {v : ℕ} → In v (up_from from count) → (from ≤ v) × (v < from + count)
 unfolding up_from
+up_in from zero {v = v} x' = elim x' [ ]
 up_in from (suc count) (here q) = omega arith
 up_in from (suc count) (there i) = let k = up_in (suc from) count i in omega arith
 
@@ -159,5 +162,6 @@ last-low (next h r) = let k = last-low r in omega arith
 
 pub last-top : {d c : ℕ} {cs : List ℕ} → Rising d cs → In c cs → c ≤ last_or d cs
 unfolding last_or
+last-top {c = c} (end {d = d}) x4 = elim x4 [ ]
 last-top (next h r) (here q) = let k = last-low r in omega arith
 last-top (next h r) (there i) = last-top r i

@@ -55,6 +55,7 @@ module _ {A : Type 0} where
 
   -- one more at the end
   pub in-snoc : (xs : List A) {x y : A} → In x (xs ++ (y ∷ [])) → (In x xs) ⊎ (x ≡ y)
+  in-snoc [] {y = y} (there i) = elim i [ ]
   in-snoc [] (here q) = inr q
   in-snoc (z ∷ xs) (here q) = inl (here q)
   in-snoc (z ∷ xs) (there i) = cases (in-snoc xs i) (λ j. inl (there j)) inr
@@ -83,6 +84,7 @@ module _ {A B : Type 0} where
   in-flat g (there {y = z} {xs = xs} i) j = in_right (g z) (in-flat g i j)
 
   pub in_map : (g : A → B) (xs : List A) {y : B} → In y (map g xs) → (x : A) × In x xs × (y ≡ g x)
+  in_map g [] {y = y} x' = elim x' [ ]
   in_map g (x ∷ xs) (here q) = (x, here refl, q)
   in_map g (x ∷ xs) (there i) = let r = in_map g xs i in (r.0, there r.1, r.2)
 
@@ -111,6 +113,7 @@ last-member d (c ∷ cs) h = last-in d c cs
 
 pub last-greatest : {e : ℕ} (d : ℕ) {cs : List ℕ} {c : ℕ} → Rising e cs → In c cs → c ≤ last_or d cs
 unfolding last_or
+last-greatest {e = e} d {c = c} Rattle.lists.specs.Member.end i = elim i [ ]
 last-greatest d (next h r) i = last-top (next h r) i
 
 -- the place of a member of a rising list: how many stand before it

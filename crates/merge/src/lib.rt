@@ -1,5 +1,7 @@
 // Another row, merged into a site's own: what either has heard (rules V). What a merged row is, and what the call answers, is specs/Merge.antt;
 // that merging is as good as the messages is claimed in the crate line. No public function has a `requires`: bad input is refused.
+#![tactic(auto)]
+
 ghost use Rattle.std.specs.Prelude.{◌≡◌, ◌&&◌, ◌<◌, ◌≤◌, eqb, length};
 ghost use Rattle.plan.specs.Plan.{size};
 ghost use Rattle.plan.specs.Output.{output};

@@ -1,5 +1,7 @@
 // The next small plan, as code. What the call answers and leaves is specs/Call.antt of the crate small_plans. It goes through candidates, lists
 // whose bytes are each in the range of their place, and skips those that begin like no plan. A refused call leaves the lent bytes.
+#![tactic(auto)]
+
 ghost use Rattle.std.specs.Prelude.{◌≡◌, ◌≤◌, ◌<◌, length, take};
 ghost use Rattle.plan.specs.Check.{Accepted};
 ghost use Rattle.plan.specs.Output.{output};

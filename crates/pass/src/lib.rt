@@ -3,6 +3,8 @@
 //
 // How a node ended is a byte: 3 it works, 4 it breaks, above 4 the number of its fault. What a block comes to by the children that it
 // has settled, its state, is a byte too: 3, 4, or 5 where children of an xor offer and the picked one is not among them.
+#![tactic(auto)]
+
 ghost use Rattle.std.specs.Prelude.{◌≡◌, ◌<◌};
 ghost use Rattle.plan.specs.Plan.{kind_of};
 ghost use Rattle.links.specs.Links.{Linked};

@@ -1,5 +1,7 @@
 // The record of the single pass: its marks, and their classes by a table. What the call answers and leaves is specs/PassRecord.antt. The
 // public function has no `requires`; the pass runs once.
+#![tactic(auto)]
+
 ghost use Rattle.std.specs.Prelude.{◌≡◌};
 ghost use Rattle.retention.specs.Record.{recorded};
 ghost use Rattle.pass_record.specs.PassRecord.{pass_record_into};

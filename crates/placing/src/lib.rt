@@ -1,4 +1,6 @@
 // A tree written as a plan, node by node, in the fixed numbering (rule R3): what every call that writes a plan of a tree has in common.
+#![tactic(auto)]
+
 ghost use Rattle.std.specs.Prelude.{◌≡◌, ◌+◌, ◌*◌, ◌<◌, length, set};
 ghost use Rattle.trees.specs.Tree.{trees_below};
 ghost use Rattle.placing.specs.Place.{Placeable, Placed};

@@ -1,6 +1,8 @@
 // Plan bytes: nodes, kinds and parents, read. What the words mean is specs/Plan.antt; which plans are accepted, and with which number the
 // others are refused, is specs/Check.antt; what a call comes to that writes lent bytes is specs/Output.antt and specs/Replaced.antt. No public
 // function has a `requires`.
+#![tactic(auto)]
+
 ghost use Rattle.std.specs.Prelude.{◌≡◌, get_or};
 ghost use Rattle.plan.specs.Plan.{size, kind_byte, parent, above_byte};
 

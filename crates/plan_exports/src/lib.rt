@@ -1,6 +1,8 @@
 // Exported functions (include/vulcedar.h): a plan's check, its single pass and its records, one answer changed, a way, and the version.
 // Nothing else: numbers are 32 bits wide and are not cut, a slice is a pointer and a length, and every length is tested inside. What a result
 // holds is the crate results's.
+#![tactic(auto)]
+
 ghost use Rattle.std.specs.Prelude.{◌≡◌};
 ghost use Rattle.plan.specs.Check.{check_number};
 ghost use Rattle.checker.specs.Depths.{depths_of};

@@ -1,5 +1,7 @@
 // Named points in a journal: sixteen slots, which the caller lends as names and places. What they are is specs/Points.antt; what naming and dropping do
 // to the places of names is specs/Claim.antt. `points_fit` and `name_point` take anything; the others are for callers that have asked `points_fit`.
+#![tactic(auto)]
+
 ghost use Rattle.std.specs.Prelude.{◌≡◌, ◌&&◌, suc, ◌+◌, ◌*◌, ◌<◌, ◌≤◌, ltb, length};
 ghost use Rattle.std.proofs.lemmas.List.Edits.{sets};
 ghost use Rattle.points.specs.Keys.{half_at, key_at};

@@ -1,5 +1,7 @@
 // Reads the text of a plan and steps from standard input and writes to standard output what `script::rehearse` prints for it.
 // A Rattle program has no exit status: the command that has one is tools/rehearse.c, over the same functions.
+#![tactic(auto)]
+
 use libc::{STDIN_FILENO, STDOUT_FILENO};
 
 fn main() {

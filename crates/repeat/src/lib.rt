@@ -1,5 +1,7 @@
 // A template repeated, as code. What the call answers and leaves is specs/Call.antt of the crate template. It is linear in the nodes of the
 // template and of the repeated plan, and a refused call leaves the lent bytes.
+#![tactic(auto)]
+
 ghost use Rattle.std.specs.Prelude.{◌≡◌, ◌<◌, eqb, length};
 ghost use Rattle.plan.specs.Plan.{size, child_count};
 ghost use Rattle.plan.specs.Check.{Accepted};

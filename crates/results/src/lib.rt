@@ -1,4 +1,6 @@
 // Results for C: what a call answers, packed into 32 bits. What a result holds is specs/Result.antt. No public function has a `requires`.
+#![tactic(auto)]
+
 ghost use Rattle.std.specs.Prelude.{◌≡◌};
 ghost use Rattle.site.specs.declared.Verdict.TheVariants.{Refused};
 ghost use Rattle.results.specs.Result.{result_of, of_verdict};

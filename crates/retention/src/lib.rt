@@ -1,5 +1,7 @@
 // Retention classes: tables from marks to classes, a node's class by a table and all marks, and every node's. What they mean is
 // specs/Record.antt. No public function has a `requires`.
+#![tactic(auto)]
+
 ghost use Rattle.std.specs.Prelude.{◌≡◌, ◌<◌};
 ghost use Rattle.retention.specs.Record.{common_table, frame_ok, table_number, fell, counts_above, counts_as, class, classes_into};
 

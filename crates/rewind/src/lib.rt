@@ -2,6 +2,8 @@
 // 7), and on a plan of two bytes a node (`point_undo`, `point_back`, which make them). Entries are read as arrays of four bytes, in C the same memory as
 // the struct, since loops over slices of structs are not covered. What the calls mean is specs/Return.antt; what holds of every list of them is
 // specs/Session.antt.
+#![tactic(auto)]
+
 ghost use Rattle.std.specs.Prelude.{◌≡◌, true, List, ℕ, ◌*◌, ◌-◌, ◌≤◌, length, get_or};
 ghost use Rattle.plan.specs.Plan.{size};
 ghost use Rattle.event.specs.Site.{own};

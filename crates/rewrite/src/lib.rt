@@ -1,6 +1,8 @@
 // Plans made before kind 08 had and-blocks that wait under kind 03. Rewriting such a plan makes them 08 and changes nothing else. What is
 // written and answered is specs/Rewrite.antt; that the plan keeps its guards, its check and its pass is specs/Kept.antt. No public function
 // has a `requires`.
+#![tactic(auto)]
+
 ghost use Rattle.std.specs.Prelude.{◌≡◌, length};
 ghost use Rattle.plan.specs.Replaced.{replaced};
 ghost use Rattle.rewrite.specs.Rewrite.{rewritten_byte, rewritten, rewrite_of};

@@ -1,6 +1,8 @@
 // A site's row: what it has heard, an event set in it, and whether an event is barred there and its guard holds. What a row is stands in
 // specs/Row.antt, what bars an event and when a guard holds in the guard's specs/Guard.antt. No public function has a `requires`: each answers
 // for any bytes.
+#![tactic(auto)]
+
 mod evaluate;
 
 ghost use Rattle.std.specs.Prelude.{◌≡◌, [], ◌∷◌};

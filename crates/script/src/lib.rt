@@ -1,5 +1,7 @@
 // A whole simulation as a function from text to text: reads a table of classes, a plan and steps, runs them from zeros and prints the numbers and the record.
 // A text's number and what it prints are specs/Script.antt. No public function has a `requires`.
+#![tactic(auto)]
+
 ghost use Rattle.std.specs.Prelude.{◌≡◌, ◌+◌, ◌*◌, ◌%◌, ◌≤◌, length};
 ghost use Rattle.lists.specs.Put.{Put};
 ghost use Rattle.plan.specs.Plan.{size};

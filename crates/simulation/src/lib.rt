@@ -1,6 +1,8 @@
 // The simulation of a whole job on a plan of two bytes a node: all sites' rows in one lent state, steps that happen or are told, the record, and
 // lists of steps in frames. Every node has its own row, which is the layout without tables. What each function answers and leaves is
 // specs/Run.antt; what a step means, and what holds of every list of steps, is the crate job's.
+#![tactic(auto)]
+
 ghost use Rattle.std.specs.Prelude.{◌≡◌, ◌&&◌, ◌+◌, ◌*◌, ◌/◌, ◌%◌, ◌<◌, eqb, length};
 ghost use Rattle.event.specs.Site.{own};
 ghost use Rattle.retention.specs.Record.{recorded};

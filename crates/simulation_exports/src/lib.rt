@@ -1,6 +1,8 @@
 // Exported functions (include/vulcedar.h): a simulation, its journal with named points, one that is run from a text, and a test load.
 // Nothing else: numbers are 32 bits wide and are not cut, a slice is a pointer and a length, and every length is tested inside. What a result
 // holds is the crate results's.
+#![tactic(auto)]
+
 ghost use Rattle.std.specs.Prelude.{◌≡◌, List, ◌-◌, length, get_or, set};
 ghost use Rattle.journal.specs.Journal.{no_entry};
 ghost use Rattle.simulation.specs.Run.{simulate_of};

@@ -1,6 +1,8 @@
 // What one site does: it steps an event on its own row, and hears of events that happened elsewhere. What a step and a message mean is
 // specs/Step.antt: one equation for the answer and every lent byte. A call of `step` or `hear` that is not valid is refused with the number of the
 // test that failed; `decide` is the part of a step behind the tests, for callers that have made them.
+#![tactic(auto)]
+
 ghost use Rattle.std.specs.Prelude.{◌≡◌, ◌<◌};
 ghost use Rattle.plan.specs.Plan.{size};
 ghost use Rattle.plan.specs.Output.{output};

@@ -1,6 +1,8 @@
 // Exported functions (include/vulcedar.h): a site and its guards, and the central rule.
 // Nothing else: numbers are 32 bits wide and are not cut, a slice is a pointer and a length, and every length is tested inside. What a result
 // holds is the crate results's.
+#![tactic(auto)]
+
 ghost use Rattle.std.specs.Prelude.{◌≡◌};
 ghost use Rattle.guard.specs.Rule.{rule_answer};
 ghost use Rattle.writer.specs.Written.{write_of};

@@ -1,5 +1,7 @@
 // The text of a simulation: reads lines of hexadecimal digits, and prints them. What a text tells is specs/Text.antt, a line specs/Hex.antt, and what the
 // public functions answer specs/Calls.antt. No public function has a `requires`: malformed text and short buffers are refused.
+#![tactic(auto)]
+
 ghost use Rattle.std.specs.Prelude.{◌≡◌, ◌+◌, ◌*◌, ◌<◌, ◌≤◌, length};
 ghost use mathlib.Core.List.{flatten};
 ghost use Rattle.lists.specs.Put.{Put};

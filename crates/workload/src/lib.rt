@@ -1,5 +1,7 @@
 // A test load that two makers can share (rules U): what it is is specs/Load.antt, the call specs/Call.antt, the claims specs/Claim.antt. It is
 // linear in the steps, and a refused call leaves the lent bytes.
+#![tactic(auto)]
+
 ghost use Rattle.std.specs.Prelude.{◌≡◌, ◌+◌, ◌*◌, ◌%◌, ◌^◌, ◌<◌, ◌≤◌, length, if◌then◌else◌, nat_eq};
 ghost use Rattle.lists.specs.Put.{Put};
 ghost use Rattle.plan.specs.Replaced.{replaced};

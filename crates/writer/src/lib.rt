@@ -1,5 +1,7 @@
 // The guard of an event as bytes, written into a lent buffer. What a guard is, and its bytes, stand in the crate guard; what the writer answers and
 // leaves is specs/Written.antt. The public function has no `requires`: bad input is refused.
+#![tactic(auto)]
+
 mod family;
 mod fill;
 mod put;

@@ -10,7 +10,7 @@ wide-requires c κs = search rules
 mul-byte-at : tie.Need-overflow-mul-byte-at
 mul-byte-at c = search rules
 
-byte-at-requires : tie.Need-byte-at-requires
+byte-at-requires : tie.Need-byte_at-requires
 byte-at-requires c κs = search rules
 
 returns : tie.Need-returns

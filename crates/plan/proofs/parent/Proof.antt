@@ -13,7 +13,7 @@ mul-byte-at c = search rules
 add-byte-at : tie.Need-overflow-add-byte-at
 add-byte-at c = search rules
 
-byte-at-requires : tie.Need-byte-at-requires
+byte-at-requires : tie.Need-byte_at-requires
 byte-at-requires c κs = search rules
 
 returns : tie.Need-returns
