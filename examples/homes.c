@@ -3,8 +3,7 @@
  * their sites are at one desk and share its row. At the other home the editor has a desk, and the supervisor has another.
  *
  * Every desk keeps one row. It takes its steps by vulcedar_desk_step, with the plan that has desks; what passes is heard by all
- * sites of the desk at once, and the desks of those who wait for it are told, each one time: vulcedar_audience says who. They
- * hear by vulcedar_hear, with the plain plan.
+ * sites of the desk at once, and the other desks are told of it, each one time. They hear by vulcedar_hear, with the plain plan.
  * The line is late, mixes the order and repeats every third message (docs/GUIDE.md, "Several sites at one desk").
  *
  * An auditor, which a real host does not need, runs the same steps in one simulation by vulcedar_desk_simulate, and stops the
@@ -77,20 +76,13 @@ static uint32_t simulate(uint32_t code, uint32_t node, uint32_t desk)
     return vulcedar_desk_simulate(plan, sizeof plan, code, node, desk, state[0], sizeof state);
 }
 
-/* What passed is told to the desks of the sites that wait for it, one time each; the desk where it happened knows it. */
+/* What passed is told to every other desk, one time each. */
 static void tell_others(uint32_t code, uint32_t node, uint32_t at)
 {
-    uint8_t site[VULCEDAR_AUDIENCE_MOST];
-    bool told[VULCEDAR_DESK_HIGHEST + 1] = { false };
-    uint32_t r = vulcedar_audience(plain, sizeof plain, code, node, site, sizeof site);
-    if (VULCEDAR_NUMBER(r) != VULCEDAR_PASSED) fail("an event has no audience");
-    told[at] = true;
-    for (uint32_t i = 0; i < VULCEDAR_VALUE(r); i++) {
-        uint32_t desk = plan[3 * site[i] + 2];
-        if (told[desk]) continue;
+    for (uint32_t desk = 0; desk <= VULCEDAR_DESK_HIGHEST; desk++) {
+        if (!used[desk] || desk == at) continue;
         if (waiting == LINE) fail("the line is full");
         line[waiting++] = (struct message){ code, node, desk, false };
-        told[desk] = true;
         sent++;
     }
 }
@@ -111,7 +103,7 @@ static bool happen(uint32_t code, uint32_t node)
 static void deliver(void)
 {
     struct message m = line[--waiting];
-    if (VULCEDAR_NUMBER(vulcedar_hear(plain, sizeof plain, m.code, m.node, row_of(m.desk), NODES)) != VULCEDAR_PASSED) fail("a message is refused");
+    if (vulcedar_hear(plain, sizeof plain, m.code, m.node, row_of(m.desk), NODES) != VULCEDAR_PASSED) fail("a message is refused");
     if (simulate(m.code, m.node, m.desk) != VULCEDAR_PASSED) fail("the auditor refuses a message");
     if (++arrived % 3 != 0 || m.repeated) return;
     memmove(line + 1, line, waiting++ * sizeof line[0]);
@@ -175,7 +167,7 @@ int main(void)
     if (memcmp(marks, pass_marks, NODES) != 0 || memcmp(classes, pass_classes, NODES) != 0) fail("the records differ");
     printf("\n");
     for (size_t v = 0; v < NODES; v++) printf("%2u  %-20s %-10s  %-12s %s\n", (unsigned)v, SHOW[v].name, who(SHOW[v].desk), MARK[marks[v]], CLASS[classes[v]]);
-    printf("\n%u events, told by %u messages between %u desks; between sites, all told of everything, it would have been %u\n", events, sent, DESKS, events * (NODES - 1));
+    printf("\n%u events, told by %u messages between %u desks; a row for each site would have taken %u\n", events, sent, DESKS, events * (NODES - 1));
     printf("%u arrived, with those that came twice; the end record is the pass's\n", arrived);
     return 0;
 }

@@ -3,8 +3,8 @@
  *
  * The line drops messages (the sender resends until it has heard back), doubles them and mixes their order, and now and
  * then a site tells of an event that is not its own to tell. Every site decides its own events by vulcedar_step on its own
- * row, tells those whom vulcedar_audience names, and hears of others by vulcedar_hear. When they have all been told and
- * nothing can happen any more, the end record is printed beside the one of a single pass.
+ * row and hears of others by vulcedar_hear. When nothing can happen any more, the end record is printed beside the one of
+ * a single pass.
  *
  * What it relies on, as every host must (docs/GUIDE.md, "A host's two rules"):
  *   1. Each step is taken on the row of the event's own site: happen() is the only caller of vulcedar_step that counts.
@@ -145,7 +145,7 @@ static void arrive(struct message m)
         audit_dropped(m);
         return;
     }
-    if (VULCEDAR_NUMBER(vulcedar_hear(plan, sizeof plan, m.code, m.node, rows[m.to], NODES)) != VULCEDAR_PASSED) fail("a message was refused");
+    if (vulcedar_hear(plan, sizeof plan, m.code, m.node, rows[m.to], NODES) != VULCEDAR_PASSED) fail("a message was refused");
     if (vulcedar_simulate(plan, sizeof plan, m.code, m.node, m.to, state, sizeof state) != VULCEDAR_PASSED) fail("the auditor refuses a message");
     if (draw(4)) told[m.from][m.code][m.node][m.to] = true; /* else the confirmation was lost */
 }
@@ -163,21 +163,18 @@ static void deliver(void)
     else line[i] = line[--waiting];
 }
 
-/* Every site resends its own events to the sites that wait for them, until they confirm. True if nothing is left to tell. */
+/* Every site resends what it knows of its own events until it is confirmed. True if nothing is left to tell. */
 static bool resend(void)
 {
     bool all = true;
-    uint8_t to[VULCEDAR_AUDIENCE_MOST];
     for (uint32_t node = 0; node < NODES; node++)
         for (uint32_t code = VULCEDAR_START; code <= VULCEDAR_TURN_DOWN; code++) {
             uint32_t at = site_of(code, node);
             if (at >= NODES || !heard(rows[at], code, node)) continue;
-            uint32_t r = vulcedar_audience(plan, sizeof plan, code, node, to, sizeof to);
-            if (VULCEDAR_NUMBER(r) != VULCEDAR_PASSED) fail("an event has no audience");
-            for (uint32_t i = 0; i < VULCEDAR_VALUE(r); i++)
-                if (!told[at][code][node][to[i]]) {
+            for (uint32_t to = 0; to < NODES; to++)
+                if (to != at && !told[at][code][node][to]) {
                     all = false;
-                    if (draw(3) == 0) post((struct message){ (uint8_t)code, (uint8_t)node, (uint8_t)at, to[i] });
+                    if (draw(3) == 0) post((struct message){ (uint8_t)code, (uint8_t)node, (uint8_t)at, (uint8_t)to });
                 }
         }
     return all;

@@ -1,5 +1,5 @@
 /*
- * Vulcedar 1.10.0: jobs that follow a plan, decided by the sites that do the work.
+ * Vulcedar 1.9.0: jobs that follow a plan, decided by the sites that do the work.
  *
  * A plan is a tree of tasks and blocks. Every node has a site; a site keeps one row of bytes, what it has heard, and
  * decides the events of its node from that row alone. This header is all that a host needs; docs/GUIDE.md shows how a
@@ -97,7 +97,7 @@ extern "C" {
 
 /* The version of this header. vulcedar_version() is that of the library that is linked. */
 #define VULCEDAR_VERSION_MAJOR 1
-#define VULCEDAR_VERSION_MINOR 10
+#define VULCEDAR_VERSION_MINOR 9
 #define VULCEDAR_VERSION_PATCH 0
 #define VULCEDAR_VERSION (65536u * VULCEDAR_VERSION_MAJOR + 256u * VULCEDAR_VERSION_MINOR + VULCEDAR_VERSION_PATCH)
 
@@ -149,7 +149,7 @@ enum vulcedar_number {
     VULCEDAR_TOO_DEEP = 6,         /* a node lies deeper than 32 */
     VULCEDAR_BAD_BUFFER = 7,       /* a buffer has not the length that the call says, a journal is full, or points are not right */
     VULCEDAR_NOT_IN_PLAN = 8,      /* there is no such code, or the plan has no such node or site, or the desk is not in use */
-    VULCEDAR_NOT_APPLICABLE = 9,   /* the node has no such event; vulcedar_impact: it is no task; vulcedar_merge: a row has an event that its node has not */
+    VULCEDAR_NOT_APPLICABLE = 9,   /* the node has no such event; vulcedar_impact: it is no task */
     VULCEDAR_BARRED = 10,          /* it happened already, or something that rules it out did; this will not change, unless a step is taken back */
     VULCEDAR_UNMET = 11,           /* the site has not heard all that the event waits for; this may change */
     VULCEDAR_NOT_HAPPENED = 12,    /* simulation: the message tells of something that did not happen */
@@ -191,8 +191,7 @@ enum vulcedar_number {
 /* The site, or desk, of a step of a simulation, of a kept step and of an entry that stands for "the event happens". */
 #define VULCEDAR_HAPPENS 0xffu
 
-/* Limits. No plan of two bytes a node has more bytes than VULCEDAR_PLAN_MOST, no guard more than VULCEDAR_GUARD_MOST, no
- * audience more sites than VULCEDAR_AUDIENCE_MOST. */
+/* Limits. No plan of two bytes a node has more bytes than VULCEDAR_PLAN_MOST, no guard more than VULCEDAR_GUARD_MOST. */
 #define VULCEDAR_NODES_MOST 160u
 #define VULCEDAR_PLAN_MOST 320u
 #define VULCEDAR_SMALL_NODES_MOST 5u
@@ -201,7 +200,6 @@ enum vulcedar_number {
 #define VULCEDAR_CHILDREN_MOST 32u
 #define VULCEDAR_DEPTH_MOST 32u
 #define VULCEDAR_GUARD_MOST 290u
-#define VULCEDAR_AUDIENCE_MOST 32u
 #define VULCEDAR_TABLE_LENGTH 12u
 #define VULCEDAR_POINTS_MOST 16u
 #define VULCEDAR_NAME_LENGTH 8u
@@ -297,26 +295,9 @@ uint32_t vulcedar_step(const uint8_t *plan, size_t plan_len, uint32_t code, uint
 
 /*
  * A site hears of an event: its bit is set in row, the row of the site that hears. A repeat changes nothing. The message
- * is believed: tell a site only of events that passed (docs/GUIDE.md, "A host's two rules"). The value is 1 if the event is
- * new to the site, and 0 for a repeat: nothing to store then. 1 to 9.
+ * is believed: tell a site only of events that passed (docs/GUIDE.md, "A host's two rules"). 1 to 9.
  */
 uint32_t vulcedar_hear(const uint8_t *plan, size_t plan_len, uint32_t code, uint32_t node, uint8_t *row, size_t row_len);
-
-/*
- * Whom to tell of an event that passed: the sites, other than its own, whose guards name it. out gets their numbers, lowest
- * first, at its front, and the bytes behind them are left; the value is how many there are, none up to VULCEDAR_AUDIENCE_MOST.
- * If every event is told to its audience, sooner or later and however often, every site decides as if it had been told of
- * everything (docs/RULES.md, V8, V9). 1 to 6, 8, 9, then 7 if out is shorter than the list.
- */
-uint32_t vulcedar_audience(const uint8_t *plan, size_t plan_len, uint32_t code, uint32_t node, uint8_t *out, size_t out_len);
-
-/*
- * A site takes over what another row has heard: every bit of other is set in row. other is a row of any site, of now or of
- * any earlier time, or several of them merged; to merge one again, or an older one, changes nothing. Rows can so be sent in
- * place of messages. other is believed as a message is. The value is how many events are new to the site. 1 to 7; 9 if row
- * or other has a bit of an event that does not apply to its node, which no site can have heard: it is damaged.
- */
-uint32_t vulcedar_merge(const uint8_t *plan, size_t plan_len, uint8_t *row, size_t row_len, const uint8_t *other, size_t other_len);
 
 /*
  * The single pass: what becomes of every node, once it is known how the tasks end and what is decided. answers has one

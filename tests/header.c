@@ -2,8 +2,7 @@
  * What include/vulcedar.h and docs/GUIDE.md say about calling, tried: null pointers with length 0, where a result has a
  * site, the rule beside a guard, the common table, the version, a journal and its points, plans with desks, one answer of a
  * pass changed, the way to each target of a plan, one tree in each of its numberings, depth forms, templates that are
- * repeated, all small plans one after another, test loads, whom to tell of an event, merged rows, and what a false message
- * does. Compiled as C and as C++.
+ * repeated, all small plans one after another, test loads, and what a false message does. Compiled as C and as C++.
  */
 #include <inttypes.h>
 #include <stdio.h>
@@ -26,9 +25,6 @@ LAYOUT(small, VULCEDAR_LAST_PLAN == 26 && VULCEDAR_NOT_SMALL == 27 && VULCEDAR_S
 LAYOUT(steps, VULCEDAR_STEP_BYTES == 3 && VULCEDAR_HAPPENS == 0xff && VULCEDAR_START == 1 && VULCEDAR_TURN_DOWN == 8);
 LAYOUT(desks, VULCEDAR_DESK_HIGHEST == 0x9f && VULCEDAR_BAD_DESK == 22 && VULCEDAR_DESK_HIGHEST + 1 == VULCEDAR_NODES_MOST);
 
-LAYOUT(audience, VULCEDAR_AUDIENCE_MOST == VULCEDAR_CHILDREN_MOST && VULCEDAR_AUDIENCE_MOST == 32 && VULCEDAR_BAD_BUFFER == 7 && VULCEDAR_NOT_IN_PLAN == 8 && VULCEDAR_NOT_APPLICABLE == 9);
-LAYOUT(version, VULCEDAR_VERSION == 0x010a00);
-
 static int wrong;
 
 static void expect(const char *what, uint32_t is, uint32_t should)
@@ -47,7 +43,6 @@ static uint32_t result(uint32_t number, uint32_t middle, uint32_t value) { retur
 static void nulls(void)
 {
     static const uint8_t plan[] = { VULCEDAR_TASK, VULCEDAR_NO_PARENT };
-    static const uint8_t block[] = { VULCEDAR_SERIAL, VULCEDAR_NO_PARENT, VULCEDAR_TASK, 0 };
     static const uint8_t form[] = { VULCEDAR_TASK, 1 };
     static const uint8_t table[] = VULCEDAR_COMMON_TABLE;
     static const uint8_t text[] = { '0', '1', 'f', 'f', '\n', '-', '-', '\n' };
@@ -68,8 +63,6 @@ static void nulls(void)
     expect("rule of nothing", vulcedar_rule(NULL, 0, VULCEDAR_START, 0), VULCEDAR_BAD_LENGTH);
     expect("step of nothing", vulcedar_step(NULL, 0, VULCEDAR_START, 0, NULL, 0), VULCEDAR_BAD_LENGTH);
     expect("hear of nothing", vulcedar_hear(NULL, 0, VULCEDAR_START, 0, NULL, 0), VULCEDAR_BAD_LENGTH);
-    expect("audience of nothing", vulcedar_audience(NULL, 0, VULCEDAR_START, 0, NULL, 0), VULCEDAR_BAD_LENGTH);
-    expect("merging of nothing", vulcedar_merge(NULL, 0, NULL, 0, NULL, 0), VULCEDAR_BAD_LENGTH);
     expect("pass of nothing", vulcedar_pass(NULL, 0, NULL, 0, NULL, 0), VULCEDAR_BAD_LENGTH);
     expect("a change in nothing", vulcedar_impact(NULL, 0, NULL, 0, NULL, 0, 0, 1), VULCEDAR_BAD_LENGTH);
     expect("a way in nothing", vulcedar_way(NULL, 0, 0, VULCEDAR_COMMITTED, VULCEDAR_COMMITTED, NULL, 0), VULCEDAR_BAD_LENGTH);
@@ -101,10 +94,6 @@ static void nulls(void)
     expect("guard into nothing", vulcedar_guard(plan, sizeof plan, VULCEDAR_START, 0, NULL, 0), VULCEDAR_BAD_BUFFER);
     expect("step on nothing", vulcedar_step(plan, sizeof plan, VULCEDAR_START, 0, NULL, 0), VULCEDAR_BAD_BUFFER);
     expect("hear on nothing", vulcedar_hear(plan, sizeof plan, VULCEDAR_START, 0, NULL, 0), VULCEDAR_BAD_BUFFER);
-    expect("an audience of nobody into nothing", vulcedar_audience(plan, sizeof plan, VULCEDAR_START, 0, NULL, 0), VULCEDAR_PASSED);
-    expect("an audience into nothing", vulcedar_audience(block, sizeof block, VULCEDAR_START, 0, NULL, 0), VULCEDAR_BAD_BUFFER);
-    expect("merging into nothing", vulcedar_merge(plan, sizeof plan, NULL, 0, state, 1), VULCEDAR_BAD_BUFFER);
-    expect("merging of no row", vulcedar_merge(plan, sizeof plan, state, 1, NULL, 0), VULCEDAR_BAD_BUFFER);
     expect("pass without answers", vulcedar_pass(plan, sizeof plan, NULL, 0, NULL, 0), VULCEDAR_BAD_BUFFER);
     expect("a change without answers", vulcedar_impact(plan, sizeof plan, NULL, 0, NULL, 0, 0, 1), VULCEDAR_BAD_BUFFER);
     expect("a way into nothing", vulcedar_way(plan, sizeof plan, 0, VULCEDAR_COMMITTED, VULCEDAR_COMMITTED, NULL, 0), VULCEDAR_BAD_BUFFER);
@@ -177,8 +166,7 @@ static void parts(void)
     expect("start of 0", vulcedar_step(plan, sizeof plan, VULCEDAR_START, 0, row0, 3), result(VULCEDAR_PASSED, 0, 0x01));
     expect("second start of 0", vulcedar_step(plan, sizeof plan, VULCEDAR_START, 0, row0, 3), result(VULCEDAR_BARRED, 0, 0));
     expect("offer of 0", vulcedar_step(plan, sizeof plan, VULCEDAR_OFFER, 0, row0, 3), result(VULCEDAR_NOT_APPLICABLE, 0, 0));
-    expect("message to 1", vulcedar_hear(plan, sizeof plan, VULCEDAR_START, 0, row1, 3), result(VULCEDAR_PASSED, 0, 1));
-    expect("the same again", vulcedar_hear(plan, sizeof plan, VULCEDAR_START, 0, row1, 3), result(VULCEDAR_PASSED, 0, 0));
+    expect("message to 1", vulcedar_hear(plan, sizeof plan, VULCEDAR_START, 0, row1, 3), result(VULCEDAR_PASSED, 0, 0));
     expect("start of 1", vulcedar_step(plan, sizeof plan, VULCEDAR_START, 1, row1, 3), result(VULCEDAR_PASSED, 1, 0x51));
     expect("simulated start of 0", vulcedar_simulate(plan, sizeof plan, VULCEDAR_START, 0, VULCEDAR_HAPPENS, state, 9), result(VULCEDAR_PASSED, 0, 0x01));
     expect("simulated message", vulcedar_simulate(plan, sizeof plan, VULCEDAR_START, 0, 1, state, 9), result(VULCEDAR_PASSED, 0, 0));
@@ -511,7 +499,7 @@ static void desks(void)
     expect_row("desk 10 as it began", 0, 0, 0, 0);
     expect_row("desk 20 as it began", 1, 0, 0, 0);
     /* at a desk alone: a message with the plain plan, a step with the other */
-    expect("a desk hears", vulcedar_hear(plain, sizeof plain, VULCEDAR_START, 0, row, 3), result(VULCEDAR_PASSED, 0, 1));
+    expect("a desk hears", vulcedar_hear(plain, sizeof plain, VULCEDAR_START, 0, row, 3), VULCEDAR_PASSED);
     expect("a step at a desk", vulcedar_desk_step(shared, sizeof shared, VULCEDAR_START, 1, row, 3), result(VULCEDAR_PASSED, 0x10, 0x51));
     expect("its desk", VULCEDAR_DESK(vulcedar_desk_step(shared, sizeof shared, VULCEDAR_PICK, 1, row, 3)), 0x20);
 }
@@ -1105,225 +1093,6 @@ static void too_many_bytes(void)
 #endif
 }
 
-/* Blocks of every kind: a serial of task 1, xor 2, conditional 3 and contingency 4. Below the xor stand tasks 5 and 8 and the
-   conditional 9; the children of 3 are 6 and the waiting and 10, those of 4 are 7 and 11, those of 9 the or 12 and 13. */
-static const uint8_t every_kind[] = {
-    VULCEDAR_SERIAL, VULCEDAR_NO_PARENT, VULCEDAR_TASK, 0, VULCEDAR_XOR, 0, VULCEDAR_CONDITIONAL, 0, VULCEDAR_CONTINGENCY, 0,
-    VULCEDAR_TASK, 2, VULCEDAR_TASK, 3, VULCEDAR_AND, 4, VULCEDAR_TASK, 2, VULCEDAR_CONDITIONAL, 2, VULCEDAR_WAITING_AND, 3,
-    VULCEDAR_TASK, 4, VULCEDAR_OR, 9, VULCEDAR_TASK, 9, VULCEDAR_TASK, 7, VULCEDAR_TASK, 10, VULCEDAR_TASK, 7, VULCEDAR_TASK, 12,
-    VULCEDAR_TASK, 10,
-};
-enum { EVERY_KIND_NODES = sizeof every_kind / 2 };
-
-/* The site that decides an event. */
-static uint32_t site_of(const uint8_t *plan, uint32_t code, uint32_t node) { return code == VULCEDAR_PICK ? plan[2 * node + 1] : node; }
-
-/* Whether a guard that is tried at a site names an event. */
-static int is_named(const uint8_t *plan, size_t nodes, uint32_t site, uint32_t code, uint32_t node)
-{
-    uint8_t guard[VULCEDAR_GUARD_MOST];
-    for (uint32_t v = 0; v < nodes; v++)
-        for (uint32_t c = VULCEDAR_START; c <= VULCEDAR_TURN_DOWN; c++) {
-            if (VULCEDAR_NUMBER(vulcedar_guard(plan, 2 * nodes, c, v, guard, sizeof guard)) != VULCEDAR_PASSED || site_of(plan, c, v) != site) continue;
-            const uint8_t *at = guard + 1;
-            for (uint32_t clause = 0; clause < guard[0]; clause++)
-                for (uint32_t left = *at++; left > 0; left--, at += 2)
-                    if (at[0] == code && at[1] == node) return 1;
-        }
-    return 0;
-}
-
-/* Asks for an audience into out_len bytes, of which there are no more than 40: those around its sites are left. */
-static uint32_t audience(const uint8_t *plan, size_t plan_len, uint32_t code, uint32_t node, uint8_t out[VULCEDAR_AUDIENCE_MOST], size_t out_len)
-{
-    enum { BEFORE = 8, ROOM = 40 };
-    uint8_t room[ROOM + 2 * BEFORE], left[sizeof room];
-    memset(left, 99, sizeof left);
-    memset(room, 99, sizeof room);
-    uint32_t r = vulcedar_audience(plan, plan_len, code, node, room + BEFORE, out_len);
-    size_t written = VULCEDAR_NUMBER(r) == VULCEDAR_PASSED ? VULCEDAR_VALUE(r) : 0;
-    expect("an audience's size", written <= VULCEDAR_AUDIENCE_MOST && written <= out_len, 1);
-    expect("an audience has no site", VULCEDAR_SITE(r), 0);
-    if (written > VULCEDAR_AUDIENCE_MOST) return r;
-    expect("bytes before an audience are left", memcmp(room, left, BEFORE) == 0, 1);
-    expect("bytes behind an audience are left", memcmp(room + BEFORE + written, left, sizeof room - BEFORE - written) == 0, 1);
-    memcpy(out, room + BEFORE, written);
-    return r;
-}
-
-/* Each event's audience is the other sites whose guards name it, lowest first; just so many bytes do, and one less does not. */
-static void audiences(void)
-{
-    static const size_t nodes = EVERY_KIND_NODES;
-    uint8_t out[VULCEDAR_AUDIENCE_MOST], sites[EVERY_KIND_NODES];
-    uint32_t told = 0;
-    expect("a plan of every kind", vulcedar_check(every_kind, sizeof every_kind), VULCEDAR_PASSED);
-    for (uint32_t node = 0; node < nodes; node++)
-        for (uint32_t code = VULCEDAR_START; code <= VULCEDAR_TURN_DOWN; code++) {
-            uint32_t rule = vulcedar_rule(every_kind, sizeof every_kind, code, node);
-            uint32_t r = audience(every_kind, sizeof every_kind, code, node, out, sizeof out);
-            size_t count = 0;
-            expect("number of rule and audience", VULCEDAR_NUMBER(r), VULCEDAR_NUMBER(rule));
-            if (VULCEDAR_NUMBER(rule) != VULCEDAR_PASSED) {
-                expect("no bytes after 9", audience(every_kind, sizeof every_kind, code, node, out, 0), VULCEDAR_NOT_APPLICABLE);
-                continue;
-            }
-            for (uint32_t site = 0; site < nodes; site++)
-                if (site != site_of(every_kind, code, node) && is_named(every_kind, nodes, site, code, node)) sites[count++] = byte_of(site);
-            expect("how many are told", VULCEDAR_VALUE(r), byte_of(count));
-            expect("who is told", memcmp(out, sites, count) == 0, 1);
-            expect("more than one", count > 1, code == VULCEDAR_PICK || (code == VULCEDAR_START && count > 1));
-            expect("just enough bytes", audience(every_kind, sizeof every_kind, code, node, out, count), r);
-            expect("more bytes", audience(every_kind, sizeof every_kind, code, node, out, 40), r);
-            if (count > 0) expect("one byte too few", audience(every_kind, sizeof every_kind, code, node, out, count - 1), VULCEDAR_BAD_BUFFER);
-            told += byte_of(count);
-        }
-    expect("all that are told", told > 40, 1);
-}
-
-/* The widest block tells 32; 1 to 6 come first, then 8 and 9, then 7; codes and nodes are not cut. */
-static void no_audiences(void)
-{
-    static const uint32_t others[] = { 0, 9, 160, 255, 256, 257, 0x103, 0x10001u, 0x80000001u, 0xffffffffu };
-    uint8_t out[VULCEDAR_AUDIENCE_MOST], plan[2 * (VULCEDAR_CHILDREN_MOST + 1)], deep[2 * VULCEDAR_DEPTH_MOST + 4], faulty[4];
-    for (size_t v = 0; v < sizeof plan / 2; v++) {
-        plan[2 * v] = v == 0 ? byte_of(VULCEDAR_XOR) : byte_of(VULCEDAR_TASK);
-        plan[2 * v + 1] = v == 0 ? byte_of(VULCEDAR_NO_PARENT) : byte_of(0);
-    }
-    for (size_t v = 0; v < sizeof deep / 2; v++) {
-        deep[2 * v] = v + 1 < sizeof deep / 2 ? VULCEDAR_AND : VULCEDAR_TASK;
-        deep[2 * v + 1] = v == 0 ? byte_of(VULCEDAR_NO_PARENT) : byte_of(v - 1);
-    }
-    for (uint32_t child = 1; child <= VULCEDAR_CHILDREN_MOST; child++) {
-        expect("a pick of 32", audience(plan, sizeof plan, VULCEDAR_PICK, child, out, sizeof out), result(VULCEDAR_PASSED, 0, VULCEDAR_AUDIENCE_MOST));
-        for (uint32_t i = 0; i < VULCEDAR_AUDIENCE_MOST; i++) expect("each of them", out[i], i + 1);
-        expect("31 bytes", audience(plan, sizeof plan, VULCEDAR_PICK, child, out, sizeof out - 1), VULCEDAR_BAD_BUFFER);
-    }
-    for (size_t length = 0; length <= sizeof out; length += sizeof out) {
-        for (size_t i = 0; i < sizeof others / sizeof others[0]; i++) {
-            expect("no such code", audience(plan, sizeof plan, others[i], 1, out, length), VULCEDAR_NOT_IN_PLAN);
-            if (i > 1) expect("no such node", audience(plan, sizeof plan, VULCEDAR_YES, others[i], out, length), VULCEDAR_NOT_IN_PLAN);
-            expect("a fault before it", audience(deep, sizeof deep, others[i], others[i], out, length), VULCEDAR_TOO_DEEP);
-        }
-        expect("no such event", audience(plan, sizeof plan, VULCEDAR_YES, 1, out, length), VULCEDAR_NOT_APPLICABLE);
-        for (uint32_t fault = VULCEDAR_BAD_LENGTH; fault <= VULCEDAR_BAD_CHILDREN; fault++) {
-            faulty[0] = fault == VULCEDAR_BAD_KIND ? 9 : fault == VULCEDAR_TASK_PARENT ? VULCEDAR_TASK : VULCEDAR_SERIAL;
-            faulty[1] = fault == VULCEDAR_BAD_PARENT ? 0xfe : byte_of(VULCEDAR_NO_PARENT);
-            faulty[2] = fault == VULCEDAR_BAD_CHILDREN ? VULCEDAR_CONDITIONAL : VULCEDAR_TASK;
-            faulty[3] = 0;
-            expect("a fault before 8", audience(faulty, fault == VULCEDAR_BAD_LENGTH ? 3 : 4, 9, 9, out, length), fault);
-            expect("a fault before 7", audience(faulty, fault == VULCEDAR_BAD_LENGTH ? 3 : 4, VULCEDAR_START, 0, out, length), fault);
-        }
-    }
-}
-
-/* Everything that every site does goes to its audience alone, and then all of it commits: eight and-blocks of 18 tasks, one after
-   another, need 297 messages, where 306 events would go to 152 others each. A host that has been told by rows knows as much. */
-static void few_messages(void)
-{
-    enum { BLOCKS = 8, TASKS = 18, NODES = 1 + BLOCKS * (1 + TASKS) };
-    static uint8_t rows[NODES][NODES], all[NODES], state[NODES * NODES];
-    uint8_t plan[2 * NODES], out[VULCEDAR_AUDIENCE_MOST], marks[NODES], classes[NODES];
-    uint32_t events = 0, messages = 0, passed = 1;
-    for (size_t v = 0; v < NODES; v++) {
-        size_t block = v == 0 ? 0 : (v - 1) / (1 + TASKS) * (1 + TASKS) + 1;
-        plan[2 * v] = v == 0 ? byte_of(VULCEDAR_SERIAL) : v == block ? byte_of(VULCEDAR_AND) : byte_of(VULCEDAR_TASK);
-        plan[2 * v + 1] = v == 0 ? byte_of(VULCEDAR_NO_PARENT) : byte_of(v == block ? 0 : block);
-    }
-    while (passed > 0) { /* again and again, until nothing passes */
-        passed = 0;
-        for (uint32_t node = 0; node < NODES; node++)
-            for (uint32_t code = VULCEDAR_START; code <= VULCEDAR_COMMIT; code += VULCEDAR_COMMIT - VULCEDAR_START) {
-                if (VULCEDAR_NUMBER(vulcedar_step(plan, sizeof plan, code, node, rows[node], NODES)) != VULCEDAR_PASSED) continue;
-                passed++;
-                uint32_t count = VULCEDAR_VALUE(audience(plan, sizeof plan, code, node, out, sizeof out));
-                for (uint32_t i = 0; i < count && i < sizeof out; i++) {
-                    expect("news", vulcedar_hear(plan, sizeof plan, code, node, rows[out[i]], NODES), result(VULCEDAR_PASSED, 0, 1));
-                    expect("a repeat", vulcedar_hear(plan, sizeof plan, code, node, rows[out[i]], NODES), VULCEDAR_PASSED);
-                    messages++;
-                }
-            }
-        events += passed;
-    }
-    expect("events", events, 2 * NODES);
-    expect("messages", messages, 297);
-    memcpy(state, rows, sizeof state);
-    expect("the record", vulcedar_record(plan, sizeof plan, state, sizeof state, marks, NODES, classes, NODES), VULCEDAR_PASSED);
-    for (size_t v = 0; v < NODES; v++) expect("a mark", marks[v], VULCEDAR_COMMITTED);
-    uint32_t news = 0; /* all rows together have every event once */
-    for (size_t v = 0; v < NODES; v++) news += VULCEDAR_VALUE(vulcedar_merge(plan, sizeof plan, all, NODES, rows[v], NODES));
-    expect("new events of all rows", news, 2 * NODES);
-    for (size_t v = 0; v < NODES; v++) expect("a merged byte", all[v], 1u << (VULCEDAR_START - 1) | 1u << (VULCEDAR_COMMIT - 1));
-}
-
-/* The bits of the events that apply to a node. */
-static uint8_t apt(const uint8_t *plan, size_t plan_len, uint32_t node)
-{
-    uint32_t bits = 0;
-    for (uint32_t code = VULCEDAR_START; code <= VULCEDAR_TURN_DOWN; code++)
-        if (VULCEDAR_NUMBER(vulcedar_rule(plan, plan_len, code, node)) == VULCEDAR_PASSED) bits |= 1u << (code - 1);
-    return byte_of(bits);
-}
-
-/* Merging is what messages of all events would leave, with as many that are new; it does not matter which row is merged into which. */
-static void merges(void)
-{
-    enum { NODES = EVERY_KIND_NODES };
-    uint8_t one[NODES], two[NODES], there[NODES], back[NODES], told[NODES], other[NODES];
-    uint64_t s = 7;
-    for (size_t round = 0; round < 100; round++) {
-        uint32_t news = 0;
-        for (uint32_t v = 0; v < NODES; v++) {
-            one[v] = byte_of(draw(&s) & apt(every_kind, sizeof every_kind, v));
-            two[v] = byte_of(draw(&s) & apt(every_kind, sizeof every_kind, v));
-        }
-        memcpy(there, one, NODES);
-        memcpy(back, two, NODES);
-        memcpy(told, one, NODES);
-        memcpy(other, two, NODES);
-        for (uint32_t v = 0; v < NODES; v++)
-            for (uint32_t code = VULCEDAR_START; code <= VULCEDAR_TURN_DOWN; code++)
-                if (two[v] >> (code - 1) & 1) news += VULCEDAR_VALUE(vulcedar_hear(every_kind, sizeof every_kind, code, v, told, NODES));
-        expect("a merging", vulcedar_merge(every_kind, sizeof every_kind, there, NODES, other, NODES), result(VULCEDAR_PASSED, 0, news));
-        expect("leaves what messages do", memcmp(there, told, NODES) == 0, 1);
-        expect("and the other row", memcmp(other, two, NODES) == 0, 1);
-        expect("once more", vulcedar_merge(every_kind, sizeof every_kind, there, NODES, other, NODES), VULCEDAR_PASSED);
-        expect("the other way", VULCEDAR_NUMBER(vulcedar_merge(every_kind, sizeof every_kind, back, NODES, one, NODES)), VULCEDAR_PASSED);
-        expect("is the same", memcmp(there, back, NODES) == 0, 1);
-    }
-}
-
-/* 1 to 6, 7 for either row, then 9 for a bit that does not apply in either; the row is left. */
-static void no_merges(void)
-{
-    enum { NODES = EVERY_KIND_NODES };
-    static const uint8_t task[] = { VULCEDAR_TASK, VULCEDAR_NO_PARENT }, damaged[] = { VULCEDAR_SERIAL, VULCEDAR_NO_PARENT };
-    uint8_t row[NODES + 1], zeros[NODES + 1], left[NODES + 1];
-    memset(zeros, 0, sizeof zeros);
-    for (uint32_t v = 0; v < NODES; v++)
-        for (uint32_t code = VULCEDAR_START; code <= VULCEDAR_TURN_DOWN; code++) {
-            uint32_t bits = apt(every_kind, sizeof every_kind, v), fits = bits >> (code - 1) & 1u;
-            uint32_t number = fits ? VULCEDAR_PASSED : VULCEDAR_NOT_APPLICABLE;
-            memset(row, 0, sizeof row);
-            row[v] = byte_of(1u << (code - 1));
-            memcpy(left, row, sizeof left);
-            expect("one bit in the row", vulcedar_merge(every_kind, sizeof every_kind, row, NODES, zeros, NODES), number);
-            expect("is left", memcmp(row, left, sizeof row) == 0, 1);
-            memset(left, 0, sizeof left);
-            expect("one bit in the other", vulcedar_merge(every_kind, sizeof every_kind, left, NODES, row, NODES), result(number, 0, fits));
-            expect("is merged where it fits", memcmp(left, fits ? row : zeros, sizeof left) == 0, 1);
-        }
-    memset(row, 0xff, sizeof row);
-    for (size_t own = 0; own <= NODES + 1; own++)
-        for (size_t other = 0; other <= NODES + 1; other++) {
-            uint32_t number = own == NODES && other == NODES ? VULCEDAR_NOT_APPLICABLE : VULCEDAR_BAD_BUFFER;
-            expect("lengths of rows", vulcedar_merge(every_kind, sizeof every_kind, row, own, left, other), number);
-            expect("a plan without children", vulcedar_merge(damaged, sizeof damaged, row, own, left, other), VULCEDAR_BAD_CHILDREN);
-            expect("a plan that is cut", vulcedar_merge(task, 1, row, own, left, other), VULCEDAR_BAD_LENGTH);
-        }
-    for (size_t v = 0; v < sizeof row; v++) expect("a refused row", row[v], 0xff);
-}
-
 /* Task 1, then task 2: site 2 is told that 1 committed, which it did not, and the block commits without it. */
 static void false_message(void)
 {
@@ -1334,10 +1103,10 @@ static void false_message(void)
     memset(state, 0, sizeof state);
     expect("start of the block", VULCEDAR_NUMBER(vulcedar_step(plan, sizeof plan, VULCEDAR_START, 0, rows[0], 3)), VULCEDAR_PASSED);
     expect("start of 2 without a message", VULCEDAR_NUMBER(vulcedar_step(plan, sizeof plan, VULCEDAR_START, 2, rows[2], 3)), VULCEDAR_UNMET);
-    expect("the false message", vulcedar_hear(plan, sizeof plan, VULCEDAR_COMMIT, 1, rows[2], 3), result(VULCEDAR_PASSED, 0, 1));
+    expect("the false message", vulcedar_hear(plan, sizeof plan, VULCEDAR_COMMIT, 1, rows[2], 3), VULCEDAR_PASSED);
     expect("start of 2", VULCEDAR_NUMBER(vulcedar_step(plan, sizeof plan, VULCEDAR_START, 2, rows[2], 3)), VULCEDAR_PASSED);
     expect("commit of 2", VULCEDAR_NUMBER(vulcedar_step(plan, sizeof plan, VULCEDAR_COMMIT, 2, rows[2], 3)), VULCEDAR_PASSED);
-    expect("the true message", vulcedar_hear(plan, sizeof plan, VULCEDAR_COMMIT, 2, rows[0], 3), result(VULCEDAR_PASSED, 0, 1));
+    expect("the true message", vulcedar_hear(plan, sizeof plan, VULCEDAR_COMMIT, 2, rows[0], 3), VULCEDAR_PASSED);
     expect("commit of the block", VULCEDAR_NUMBER(vulcedar_step(plan, sizeof plan, VULCEDAR_COMMIT, 0, rows[0], 3)), VULCEDAR_PASSED);
     expect("the record", vulcedar_record(plan, sizeof plan, rows[0], sizeof rows, marks, 3, classes, 3), VULCEDAR_PASSED);
     expect("its marks", memcmp(marks, ends, 3) == 0, 1);
@@ -1381,12 +1150,7 @@ int main(void)
     loads();
     no_loads();
     too_many_bytes();
-    audiences();
-    no_audiences();
-    few_messages();
-    merges();
-    no_merges();
     false_message();
-    if (wrong == 0) printf("header: nulls, parts of results, a journal, its points, tables, desks, a changed answer, ways, forms of a plan, repeated templates, all small plans, test loads, audiences, merged rows, the version and a false message are as it says\n");
+    if (wrong == 0) printf("header: nulls, parts of results, a journal, its points, tables, desks, a changed answer, ways, forms of a plan, repeated templates, all small plans, test loads, the version and a false message are as it says\n");
     return wrong == 0 ? 0 : 1;
 }

@@ -41,7 +41,7 @@ fi
 awk '/^```c$/ { on = 1; next } /^```$/ { on = 0 } on && NF' docs/GUIDE.md > "$out/shown"
 [ -s "$out/shown" ] || { echo "host: the guide shows no line of C"; exit 1; }
 while IFS= read -r line; do
-  grep -qxF -- "$line" examples/host.c examples/training.c examples/homes.c examples/what_if.c examples/show_way.c examples/other_editor.c examples/channels.c examples/small_plans.c examples/shared_load.c || { echo "host: the guide shows a line that no example has: $line"; exit 1; }
+  grep -qxF -- "$line" examples/training.c examples/homes.c examples/what_if.c examples/show_way.c examples/other_editor.c examples/channels.c examples/small_plans.c examples/shared_load.c || { echo "host: the guide shows a line that no example has: $line"; exit 1; }
 done < "$out/shown"
 tail -n 22 "$out/1.txt"
 echo "host: 100 jobs over a bad line, every end record is the pass's; the training room takes back what it should, and goes back where it should; at two homes three desks come to the pass's record; one result changed leaves the marks of the pass; each way leads to its target; a plan from another editor goes back as it is read; each channel of a repeated plan has its own marks; a screen is shown every small plan; two makers read out the same"

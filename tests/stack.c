@@ -2,8 +2,8 @@
  * How much stack a call takes: every exported function is called on a painted stack of its own, for plans of 160 nodes as
  * deep and as wide as they may be, and for every event of them, refused and passed; with desks, three nodes share one. An answer
  * is changed for every node, and a way is looked for to every target. Templates are repeated up to 160 nodes, as deep and as wide
- * as they may be, and beyond. The next plan is asked for at every small one. Loads have many steps, one and none. Rows that are merged
- * have every event that applies, and more than that. Prints the deepest of each function; fails if one is above what the header says. Symbols must be bound beforehand (-Wl,-z,now): the loader's own stack
+ * as they may be, and beyond. The next plan is asked for at every small one. Loads have many steps, one and none. Prints the deepest
+ * of each function; fails if one is above what the header says. Symbols must be bound beforehand (-Wl,-z,now): the loader's own stack
  * is not the library's.
  */
 #define _GNU_SOURCE
@@ -25,7 +25,6 @@ static uint8_t small[VULCEDAR_SMALL_PLAN_MOST] = { VULCEDAR_TASK, VULCEDAR_NO_PA
 static uint32_t small_nodes = 1;
 static uint8_t load[1000 * VULCEDAR_STEP_BYTES];
 static uint8_t passed[NODES]; /* the marks of the pass over the answers */
-static uint8_t sites[VULCEDAR_AUDIENCE_MOST], everything[NODES]; /* a row of all events that apply */
 static uint8_t with_desks[3 * NODES], desk_state[NODES * NODES]; /* the same plan with desks */
 static size_t desk_len; /* of that state */
 static uint8_t state[NODES * NODES], buf[VULCEDAR_GUARD_MOST], text[VULCEDAR_TEXT_MOST], printed[VULCEDAR_PRINTED_MOST];
@@ -58,10 +57,6 @@ static void short_guard(void) { answer = vulcedar_guard(plan, 2 * nodes, code, n
 static void rule(void) { answer = vulcedar_rule(plan, 2 * nodes, code, node); }
 static void step(void) { answer = vulcedar_step(plan, 2 * nodes, code, node, row, nodes); }
 static void hear(void) { answer = vulcedar_hear(plan, 2 * nodes, code, node, row, nodes); }
-static void audience(void) { answer = vulcedar_audience(plan, 2 * nodes, code, node, sites, sizeof sites); }
-static void no_audience(void) { answer = vulcedar_audience(plan, 2 * nodes, code, node, sites, 0); }
-static void merge(void) { answer = vulcedar_merge(plan, 2 * nodes, row, nodes, everything, nodes); }
-static void no_merge(void) { answer = vulcedar_merge(plan, 2 * nodes, row, nodes, everything, nodes - 1); }
 static void pass(void) { answer = vulcedar_pass(plan, 2 * nodes, answers, nodes, marks, nodes); }
 static void impact(void) { answer = vulcedar_impact(plan, 2 * nodes, answers, nodes, passed, nodes, node, code); }
 static void find(void) /* the way to the node, for each of the eight targets there */
@@ -106,8 +101,7 @@ static struct call { const char *name; void (*run)(void); int events; size_t mos
     { "next_plan", next_plan, 0, 0 }, { "next_plan (not small)", not_small, 0, 0 },
     { "workload", workload, 0, 0 }, { "workload (one step)", one_step, 0, 0 }, { "workload (no step)", no_step, 0, 0 }, { "workload (refused)", no_load, 0, 0 },
     { "guard", guard, 1, 0 }, { "guard (short buffer)", short_guard, 1, 0 }, { "rule", rule, 1, 0 }, { "step", step, 1, 0 },
-    { "hear", hear, 1, 0 }, { "audience", audience, 1, 0 }, { "audience (no bytes)", no_audience, 1, 0 }, { "merge", merge, 0, 0 }, { "merge (short row)", no_merge, 0, 0 },
-    { "pass", pass, 0, 0 }, { "impact", impact, 1, 0 }, { "way", find, 2, 0 }, { "simulate (event)", happen, 1, 0 }, { "simulate (message)", tell, 1, 0 },
+    { "hear", hear, 1, 0 }, { "pass", pass, 0, 0 }, { "impact", impact, 1, 0 }, { "way", find, 2, 0 }, { "simulate (event)", happen, 1, 0 }, { "simulate (message)", tell, 1, 0 },
     { "keep (event)", keep_event, 1, 0 }, { "keep (message)", keep_message, 1, 0 },
     { "undo (event)", undo_event, 1, 0 }, { "undo (message)", undo_message, 1, 0 },
     { "point_name", point_name, 0, 0 }, { "point_undo", point_undo, 1, 0 }, { "point_back", point_back, 1, 0 },
@@ -260,13 +254,6 @@ static void measure_plan(size_t none)
     if (VULCEDAR_NUMBER(r) != VULCEDAR_PASSED) printf("stack: a template is refused with %u\n", VULCEDAR_NUMBER(r)), exit(1);
     r = vulcedar_workload(plan, 2 * nodes, 1, sizeof load / VULCEDAR_STEP_BYTES, load, sizeof load);
     if (r != VULCEDAR_PASSED) printf("stack: a load is refused with %u\n", r), exit(1);
-    memset(everything, 0, sizeof everything);
-    memset(row, 0, sizeof row);
-    for (node = 0; node < nodes; node++)
-        for (code = 1; code <= 8; code++)
-            if (VULCEDAR_NUMBER(vulcedar_rule(plan, 2 * nodes, code, node)) == VULCEDAR_PASSED) everything[node] |= (uint8_t)(1u << (code - 1));
-    r = vulcedar_merge(plan, 2 * nodes, row, nodes, everything, nodes);
-    if (VULCEDAR_NUMBER(r) != VULCEDAR_PASSED) printf("stack: a row is refused with %u\n", VULCEDAR_NUMBER(r)), exit(1);
     seat();
     r = vulcedar_desk_record(with_desks, 3 * nodes, desk_state, desk_len, marks, nodes, classes, nodes);
     if (r != VULCEDAR_PASSED) printf("stack: a plan with desks is refused with %u\n", r), exit(1);

@@ -31,18 +31,9 @@ fn by_table(letter: u8, long: usize, plan: &[u8], c: &[u8], a: &mut [u8], b: &mu
     plan_exports::vulcedar_pass_record(plan, &c[..k], &c[k..], a, b)
 }
 
-// The calls of the line between sites: rows merged, and whom to tell.
-fn of_the_line(letter: u8, plan: &[u8], code: u32, node: u32, c: &[u8], a: &mut [u8]) -> u32 {
-    if letter == b'm' {
-        return line_exports::vulcedar_merge(plan, a, c);
-    }
-    line_exports::vulcedar_audience(plan, code, node, a)
-}
-
-// The call that a line of the table names: version, check, check that writes depths, check of a table, guard, rule, step, hear, event or message,
+// The call of the line at a place: version, check, check that writes depths, check of a table, guard, rule, step, hear, event or message,
 // central rule, pass, changed answer, way, record, pass's record and record by a table, list of steps, rewriting, renumbering, depth form of a
-// plan, plan of a depth form, repeated template, next small plan, test load, those of the line
-// between sites, text. Its result has the number in the lowest byte, then a byte for a site
+// plan, plan of a depth form, repeated template, next small plan, test load, text. Its result has the number in the lowest byte, then a byte for a site
 // or a guard's rule, and the value, where there is one, from bit 16 on.
 pub(crate) fn call(
     text: &[u8],
@@ -92,7 +83,6 @@ pub(crate) fn call(
             code,
             a,
         ),
-        b'm' | b't' => of_the_line(letter, plan, code, node, c, a),
         _ => printed(script::rehearse(c, a)),
     }
 }

@@ -10,7 +10,7 @@
 //   G 0003 0002 0000 label    a call, by its letter (calls.rt), with code, node and site; for A and B the code is the length of the table,
 //                             for I it is the new answer and the node the task, for Y the code is the mark and the site the end,
 //                             for X the code is the count and the node the marked one, for U the code is the count and node and site the
-//                             two halves of the seed; small letters are the calls of the line, and for m the bytes handed over are the other row
+//                             two halves of the seed
 #![tactic(auto)]
 
 mod calls;
@@ -84,7 +84,7 @@ fn lines(text: &[u8])
         c = noted(text, at, b'c', c);
         match plan::byte_at(text, at) {
             b'#' => say::heading(text, at),
-            b'A'..=b'Z' | b'm' | b't' => case(text, at, p, a, b, c),
+            b'A'..=b'Z' => case(text, at, p, a, b, c),
             _ => {}
         }
         at = bytes::scan::find(text, at, end, b'\n') + 1;

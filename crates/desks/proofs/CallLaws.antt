@@ -27,7 +27,7 @@ use Rattle.site.specs.declared.Verdict.TheVariants.{Passed, Heard, Refused}
 use Rattle.site.specs.Verdict.{report_of, verdict_number}
 use Rattle.site.specs.Step.{stepped, step_invalid, decide, step_at, step_of}
 use Rattle.site.proofs.StepLaws.{number-any-site}
-use Rattle.event.proofs.EventLaws.{same-event}
+use Rattle.runs.proofs.Said.{same-event}
 use Rattle.job.specs.Simulation.{row_of, Step, event, message, step_by, simulated, state_fits, row_stepped, happen, tell, simulate, step_number, passed_of, heard_of, passed_from, heard_from, zeros, passed, heard_at}
 use Rattle.job.proofs.StateLaws.{with-same}
 use Rattle.simulation.specs.Run.{record_by_on}

@@ -8,9 +8,9 @@ use native.Mathlib.Omega.{arith}
 use Rattle.lists.specs.Seq.{all, up_from}
 use Rattle.lists.proofs.Logic.{and_left, and_right}
 use Rattle.lists.proofs.Members.{all-at, in-up}
-use Rattle.event.specs.Event.{Code, start, offer, commit, abort, answered-yes, answered-no, pick, down, code_number, is_code, same_code, codes}
+use Rattle.event.specs.Event.{Code, start, offer, commit, abort, answered-yes, answered-no, pick, down, code_number, is_code, same_code}
 use Rattle.event.specs.Bit.{weight, has_bit, with_bit, without_bit}
-use Rattle.event.proofs.CodeLaws.{in-codes, code-range}
+use Rattle.event.proofs.CodeLaws.{codes, in-codes, code-range}
 
 pub beq-true : (a b : Bool) → beq a b ≡ true → a ≡ b
 beq-true true true h = refl

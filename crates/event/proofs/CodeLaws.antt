@@ -1,6 +1,7 @@
 -- Codes by their numbers: where an event applies, at whose site it happens, and what a test over all codes tells. Assumes nothing.
 use mathlib.Core.Path.{◌≡◌, refl}
 use mathlib.Core.Bool.{Bool, true, false, cond}
+use mathlib.Core.List.{List, [], ◌∷◌}
 use mathlib.Core.Logic.{◌⊎◌, inl, inr, ⊎_elim}
 use Prim.Native.Nat.{ℕ, zero, suc, ◌+◌, ◌≤◌}
 use native.Mathlib.Omega.{arith}
@@ -10,8 +11,12 @@ use Rattle.lists.specs.Member.{In, here, there}
 use Rattle.lists.proofs.Logic.{cases, decided, and_left, and_right}
 use Rattle.plan.specs.Plan.{xor, conditional, kind_number, is_kind, kind_of}
 use Rattle.plan.proofs.KindLaws.{is-kind}
-use Rattle.event.specs.Event.{Code, start, offer, commit, abort, answered-yes, answered-no, pick, down, code_number, code_of, codes, is_code, applies_by}
+use Rattle.event.specs.Event.{Code, start, offer, commit, abort, answered-yes, answered-no, pick, down, code_number, code_of, is_code, applies_by}
 use Rattle.event.specs.Site.{host_by}
+
+-- all there are
+unfoldable pub codes : List Code
+codes = start ∷ offer ∷ commit ∷ abort ∷ answered-yes ∷ answered-no ∷ pick ∷ down ∷ []
 
 pub in-codes : (c : Code) → In c codes
 unfolding codes

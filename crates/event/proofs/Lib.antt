@@ -3,4 +3,3 @@ pub mod CodeLaws
 pub mod BitLaws
 pub mod ValidLaws
 pub mod HostLaws
-pub mod EventLaws

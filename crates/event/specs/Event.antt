@@ -1,7 +1,6 @@
 -- Events, and which of them apply to a node (rules B). Definitions only.
-use Rattle.std.specs.Prelude.{Bool, true, cond, ◌&&◌, ℕ, eqb, ltb, leb}
-use mathlib.Core.List.{List, [], ◌∷◌, map, flat_map}
-use Rattle.lists.specs.Seq.{any, keep, up_from}
+use Rattle.std.specs.Prelude.{Bool, true, cond, ◌&&◌, List, ℕ, eqb, ltb, leb}
+use Rattle.lists.specs.Seq.{any}
 use Rattle.plan.specs.Plan.{Kind, conditional, is_kind, kind, size, in_xor}
 
 -- B1: the eight codes
@@ -29,10 +28,6 @@ code_of n =
     (cond (eqb n 5) answered-yes
     (cond (eqb n 6) answered-no
     (cond (eqb n 7) pick down))))))
-
--- B1: all there are, in rising number
-unfoldable pub codes : List Code
-codes = start ∷ offer ∷ commit ∷ abort ∷ answered-yes ∷ answered-no ∷ pick ∷ down ∷ []
 
 -- B1: the numbers of codes
 unfoldable pub is_code : ℕ → Bool
@@ -76,17 +71,6 @@ applies_by down k x = x
 -- B2: for an event of the plan
 unfoldable pub applies : List ℕ → Event → Bool
 applies p e = ltb e.node (size p) && applies_by e.code (kind p e.node) (in_xor p e.node)
-
--- B1: the events of a node, and those of all nodes, rising by node and then by code
-unfoldable pub events_at : ℕ → List Event
-events_at v = map (λ c. at c v) codes
-
-unfoldable pub every : List ℕ → List Event
-every p = flat_map events_at (up_from 0 (size p))
-
--- B2: the events of the plan: those of them that apply
-unfoldable pub events : List ℕ → List Event
-events p = keep (applies p) (every p)
 
 -- H8: the number is a code, and the node is in the plan
 unfoldable pub known : List ℕ → ℕ → ℕ → Bool

@@ -9,7 +9,7 @@ ghost use Rattle.trees.specs.Renumber.{renumber_of};
 ghost use Rattle.depth_form.specs.Calls.{to_depths_of, from_depths_of};
 ghost use Rattle.template.specs.Call.{repeat_of};
 ghost use Rattle.small_plans.specs.Call.{next_of};
-ghost use Rattle.results.specs.Result.{result_of, of_output};
+ghost use Rattle.results.specs.Result.{result_of, of_made};
 
 #[unsafe(no_mangle)]
 pub extern "C" fn vulcedar_rewrite(plan: &[u8], out: &mut [u8]) -> u32
@@ -45,16 +45,18 @@ pub extern "C" fn vulcedar_from_depths(depths: &[u8], out: &mut [u8]) -> u32
 
 #[unsafe(no_mangle)]
 pub extern "C" fn vulcedar_repeat(plan: &[u8], node: u32, count: u32, out: &mut [u8]) -> u32
-    ensures value { result ≡ of_output (repeat_of plan.now node count out.old) }
+    ensures value { result ≡ of_made (repeat_of plan.now node count out.old) }
     ensures out_after { out.new ≡ (repeat_of plan.now node count out.old).out }
 {
-    results::of_answer(repeat::repeat(plan, node, count, out))
+    let repeated = repeat::repeat(plan, node, count, out);
+    results::with_value(repeated.number, 0, repeated.nodes)
 }
 
 #[unsafe(no_mangle)]
 pub extern "C" fn vulcedar_next_plan(plan: &[u8], out: &mut [u8]) -> u32
-    ensures value { result ≡ of_output (next_of plan.now out.old) }
+    ensures value { result ≡ of_made (next_of plan.now out.old) }
     ensures out_after { out.new ≡ (next_of plan.now out.old).out }
 {
-    results::of_answer(next_plan::next_plan(plan, out))
+    let next = next_plan::next_plan(plan, out);
+    results::with_value(next.number, 0, next.nodes)
 }

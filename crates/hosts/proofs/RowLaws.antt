@@ -10,13 +10,12 @@ use borrow.Author.Tests.{eqb-true, eqb-false, ltb-true, ltb-false}
 use native.Mathlib.Omega.{arith}
 use Rattle.lists.proofs.Logic.{cases, decided}
 use Rattle.plan.specs.Plan.{size}
-use Rattle.plan.specs.Output.{Output}
 use Rattle.event.specs.Site.{Layout}
 use Rattle.event.specs.Bit.{with_bit}
 use Rattle.central.specs.Central.{update}
 use Rattle.row.specs.Row.{hear}
-use Rattle.site.specs.Verdict.{report_of}
-use Rattle.site.specs.Step.{step_invalid, site_at, hear_of}
+use Rattle.site.specs.Verdict.{report_of, verdict_number}
+use Rattle.site.specs.Step.{step_invalid, Stepped, site_at, hear_of}
 use Rattle.site.proofs.StepLaws.{hear-valid, hear-invalid, step-invalid}
 use Rattle.job.specs.Simulation.{row_of, with_row, zeros}
 use Rattle.job.proofs.StateLaws.{row_below, byte_at, row-hear}
@@ -73,12 +72,12 @@ module _ (p : List ℕ) (code node : ℕ) (row : List ℕ) where
   step-refused z = rw (step-invalid p (site_at p code node) code node row (step_invalid p code node row) refl (eqb-false _ 0 z))
 
   pub hear-number : send_number p code node row ≡ step_invalid p code node row
-  unfolding send_number
+  unfolding send_number report_of
   hear-number = cases (decided (eqb (step_invalid p code node row) 0))
-      (λ z. ap (λ (a : Output). a.number) (hear-valid p code node row (eqb-true _ 0 z) _ refl) ∙ sym (eqb-true _ 0 z))
-      (λ z. ap (λ (a : Output). a.number) (hear-invalid p code node row (step_invalid p code node row) refl (eqb-false _ 0 z)))
+      (λ z. ap (λ (s : Stepped). verdict_number s.verdict) (hear-valid p code node row (eqb-true _ 0 z)) ∙ sym (eqb-true _ 0 z))
+      (λ z. ap (λ (s : Stepped). verdict_number s.verdict) (hear-invalid p code node row (step_invalid p code node row) refl (eqb-false _ 0 z)))
 
-  pub hear-leaves : (hear_of p code node row).out ≡ cond (eqb (send_number p code node row) 0) (hear row code node) row
+  pub hear-leaves : (hear_of p code node row).row ≡ cond (eqb (send_number p code node row) 0) (hear row code node) row
   hear-leaves = cases (decided (eqb (step_invalid p code node row) 0))
-      (λ z. ap (λ (a : Output). a.out) (hear-valid p code node row (eqb-true _ 0 z) _ refl) ∙ sym (rw (hear-number, z)))
-      (λ z. ap (λ (a : Output). a.out) (hear-invalid p code node row (step_invalid p code node row) refl (eqb-false _ 0 z)) ∙ sym (rw (hear-number, z)))
+      (λ z. ap (λ (s : Stepped). s.row) (hear-valid p code node row (eqb-true _ 0 z)) ∙ sym (rw (hear-number, z)))
+      (λ z. ap (λ (s : Stepped). s.row) (hear-invalid p code node row (step_invalid p code node row) refl (eqb-false _ 0 z)) ∙ sym (rw (hear-number, z)))

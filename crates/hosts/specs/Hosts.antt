@@ -34,7 +34,7 @@ unfoldable pub try_number : List ℕ → ℕ → ℕ → List ℕ → ℕ
 try_number p code node row = verdict_number (step_of p code node row).verdict
 
 unfoldable pub send_number : List ℕ → ℕ → ℕ → List ℕ → ℕ
-send_number p code node row = (hear_of p code node row).number
+send_number p code node row = verdict_number (hear_of p code node row).verdict
 
 unfoldable pub action_number : List ℕ → Rows → Action → ℕ
 action_number p rows (try code node q) = try_number p code node (rows q)
@@ -43,7 +43,7 @@ action_number p rows (send code node q) = send_number p code node (rows q)
 -- H16, H17: the rows that an action leaves; those of other sites stay
 unfoldable pub acted : List ℕ → Rows → Action → Rows
 acted p rows (try code node q) = update rows q (step_of p code node (rows q)).row
-acted p rows (send code node q) = update rows q (hear_of p code node (rows q)).out
+acted p rows (send code node q) = update rows q (hear_of p code node (rows q)).row
 
 -- I14: the step of a simulation that an action stands for
 unfoldable pub step_for : Action → Step

@@ -30,14 +30,14 @@ row_apart n j k v w lv lw ne e = cases (decided (ltb j k))
     (λ a. let c = ltb-false j k a in let b = row_below n k j (omega arith) in omega arith)
 
 -- no site hears of a node that is not in the plan
-pub view_out : (p st : List ℕ) (q : ℕ) (f : Event) → size p ≤ f.node → view p st q f ≡ false
+view_out : (p st : List ℕ) (q : ℕ) (f : Event) → size p ≤ f.node → view p st q f ≡ false
 unfolding heard heard_in row_of
 view_out p st q f h =
     ap (λ (b : ℕ). has_bit b (code_number f.code))
     (get_or-eq_default (take (size p) (drop (q * size p) st)) 0 (let k = length-take (size p) (drop (q * size p) st) in omega arith))
     ∙ no-bit f.code
 
-pub view-at : (p st : List ℕ) (q : ℕ) (f : Event) → f.node < size p → view p st q f ≡ has_bit (get_or st (q * size p + f.node) 0) (code_number f.code)
+view-at : (p st : List ℕ) (q : ℕ) (f : Event) → f.node < size p → view p st q f ≡ has_bit (get_or st (q * size p + f.node) 0) (code_number f.code)
 unfolding heard heard_in
 view-at p st q f h = ap (λ (b : ℕ). has_bit b (code_number f.code)) (byte_at p st q f.node h)
 

@@ -42,7 +42,7 @@ keep-keep f g (x ∷ xs) = go (f x) (keep-keep f g xs)
     go true h = rw h
     go false h = h
 
-pub keep_append : {A : Type 0} (f : A → Bool) (xs ys : List A) → keep f (xs ++ ys) ≡ keep f xs ++ keep f ys
+pub keep_append : (f : ℕ → Bool) (xs ys : List ℕ) → keep f (xs ++ ys) ≡ keep f xs ++ keep f ys
 unfolding keep
 keep_append f [] ys = refl
 keep_append f (x ∷ xs) ys = go (f x) (keep_append f xs ys)
@@ -52,7 +52,7 @@ keep_append f (x ∷ xs) ys = go (f x) (keep_append f xs ys)
     go true h = rw h
     go false h = h
 
-pub keep-short : {A : Type 0} (f : A → Bool) (xs : List A) → length (keep f xs) ≤ length xs
+pub keep-short : (f : ℕ → Bool) (xs : List ℕ) → length (keep f xs) ≤ length xs
 unfolding keep
 keep-short f [] = omega arith
 keep-short f (x ∷ xs) = go (f x) (keep-short f xs)

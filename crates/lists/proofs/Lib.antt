@@ -15,4 +15,3 @@ pub mod Each
 pub mod Parts
 pub mod SmallestLaws
 pub mod OrderLaws
-pub mod Count

@@ -1,7 +1,7 @@
 -- Tests over lists by points: where one fails, what grows; members of maps and of appended lists; the members below a number. Assumes nothing.
-use mathlib.Core.Path.{◌≡◌, refl, ◌∙◌, ap, subst}
+use mathlib.Core.Path.{◌≡◌, refl, ◌∙◌, ap}
 use mathlib.Core.Bool.{Bool, true, false, not, ◌&&◌, ◌||◌, cond, or-false, true≢false}
-use mathlib.Core.List.{List, [], ◌∷◌, ◌++◌, map, flat_map}
+use mathlib.Core.List.{List, [], ◌∷◌, ◌++◌, map}
 use mathlib.Core.Logic.{◌⊎◌, inl, inr}
 use Prim.Native.Nat.{ℕ, suc, ◌≤◌, ◌<◌}
 use lib.Dec.{eqb, ltb}
@@ -48,11 +48,6 @@ module _ {A : Type 0} where
   in_right [] i = i
   in_right (x ∷ xs) i = there (in_right xs i)
 
-  pub in-append : (xs ys : List A) {x : A} → In x (xs ++ ys) → In x xs ⊎ In x ys
-  in-append [] ys i = inr i
-  in-append (z ∷ xs) ys (here q) = inl (here q)
-  in-append (z ∷ xs) ys (there i) = cases (in-append xs ys i) (λ j. inl (there j)) inr
-
   -- one more at the end
   pub in-snoc : (xs : List A) {x y : A} → In x (xs ++ (y ∷ [])) → (In x xs) ⊎ (x ≡ y)
   in-snoc [] {y = y} (there i) = elim i [ ]
@@ -77,11 +72,6 @@ module _ {A B : Type 0} where
   pub map-in : (g : A → B) {x : A} {xs : List A} → In x xs → In (g x) (map g xs)
   map-in g (here q) = here (ap g q)
   map-in g (there i) = there (map-in g i)
-
-  pub in-flat : (g : A → List B) {x : A} {y : B} {xs : List A} → In x xs → In y (g x) → In y (flat_map g xs)
-  unfolding flat_map
-  in-flat g {x} {y} (here {y = z} {xs = xs} q) j = in_left (flat_map g xs) (subst (λ (w : A). In y (g w)) q j)
-  in-flat g (there {y = z} {xs = xs} i) j = in_right (g z) (in-flat g i j)
 
   pub in_map : (g : A → B) (xs : List A) {y : B} → In y (map g xs) → (x : A) × In x xs × (y ≡ g x)
   in_map g [] {y = y} x' = elim x' [ ]

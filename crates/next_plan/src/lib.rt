@@ -4,14 +4,14 @@
 
 ghost use Rattle.std.specs.Prelude.{◌≡◌, ◌≤◌, ◌<◌, length, take};
 ghost use Rattle.plan.specs.Check.{Accepted};
-ghost use Rattle.plan.specs.Output.{output};
+ghost use Rattle.plan.specs.Made.{made};
 ghost use Rattle.lists.specs.Smallest.{is_found};
 ghost use Rattle.small_plans.specs.Call.{next_of};
 ghost use Rattle.small_plans.specs.Claim.{Small};
 ghost use Rattle.next_plan.specs.Candidates.{lowest, highest, Candidate, advance, or_lows, following};
 ghost use Rattle.next_plan.specs.Search.{children_needed, Dead, Found};
 
-use plan::Answer;
+use plan::Made;
 
 // The least byte at place i of a plan.
 fn lowest(i: usize) -> u8
@@ -123,41 +123,41 @@ fn search(q: &mut [u8], n: usize) -> usize
 
 // The next small plan: 1 to 6 by the check, 26 where the plan is the last one, 27 where it has more than five nodes, 7 where `out` is not 10
 // bytes, and 0 with the number of nodes where the next plan is written to the front of `out`.
-pub fn next_plan(plan: &[u8], out: &mut [u8]) -> Answer
-    ensures { next_of plan.now out.old ≡ output result.number result.value out.new }
+pub fn next_plan(plan: &[u8], out: &mut [u8]) -> Made
+    ensures { next_of plan.now out.old ≡ made result.number result.nodes out.new }
 {
     let bad = checker::check(plan);
     if bad != 0 {
-        return Answer {
+        return Made {
             number: bad,
-            value: 0,
+            nodes: 0,
         };
     }
     let n = plan.len();
     if 10 < n {
-        return Answer {
+        return Made {
             number: 27,
-            value: 0,
+            nodes: 0,
         };
     }
     let mut q = [0u8; 12];
     bytes::copy(plan, &mut q);
     let m = search(&mut q, n);
     if 10 < m {
-        return Answer {
+        return Made {
             number: 26,
-            value: 0,
+            nodes: 0,
         };
     }
     if out.len() != 10 {
-        return Answer {
+        return Made {
             number: 7,
-            value: 0,
+            nodes: 0,
         };
     }
     bytes::copy(&q[..m], out);
-    Answer {
+    Made {
         number: 0,
-        value: (m / 2) as u16,
+        nodes: (m / 2) as u8,
     }
 }

@@ -5,7 +5,7 @@ use Prim.Native.Nat.{ℕ, zero, suc}
 use Rattle.lists.specs.Seq.{keep, up_from, all_below}
 use Rattle.plan.specs.Plan.{kind_of, size, kind_byte, kind, parent, children_below, children, child_count, depth_within, depth}
 use Rattle.plan.specs.Check.{length_ok, kind_ok, parent_ok, under_block, fits, count_ok, depth_ok, at_all, check_number}
-use Rattle.plan.specs.Output.{in_front}
+use Rattle.plan.specs.Made.{in_front}
 
 pub record Case : Type 0 where
   pub plan : List ℕ

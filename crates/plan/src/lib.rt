@@ -1,16 +1,15 @@
 // Plan bytes: nodes, kinds and parents, read. What the words mean is specs/Plan.antt; which plans are accepted, and with which number the
-// others are refused, is specs/Check.antt; what a call comes to that writes lent bytes is specs/Output.antt and specs/Replaced.antt. No public
-// function has a `requires`.
+// others are refused, is specs/Check.antt; what a call comes to that writes a plan is specs/Made.antt. No public function has a `requires`.
 #![tactic(auto)]
 
 ghost use Rattle.std.specs.Prelude.{◌≡◌, get_or};
 ghost use Rattle.plan.specs.Plan.{size, kind_byte, parent, above_byte};
 
-// What a call answers that has a value: its number, 0 where it passed, and the value, 0 where it was refused.
+// What a call that writes a plan answers: its number, and how many nodes it wrote.
 #[derive(Drop)]
-pub struct Answer {
+pub struct Made {
     pub number: u8,
-    pub value: u16,
+    pub nodes: u8,
 }
 
 // A byte as an index.

@@ -19,7 +19,7 @@ ghost use Rattle.plan_exports.specs.Version.{version};
 pub extern "C" fn vulcedar_version() -> u32
     ensures { result ≡ version }
 {
-    68096
+    67840
 }
 
 #[unsafe(no_mangle)]

@@ -10,7 +10,7 @@ use lib.ListN.{length, drop, set}
 use Rattle.lists.specs.Seq.{table}
 use Rattle.plan.specs.Check.{check_number, fit_number}
 use Rattle.plan.specs.Plan.{size, depth}
-use Rattle.plan.specs.Output.{Output, output, in_front, put_front}
+use Rattle.plan.specs.Made.{Made, made, in_front}
 use Rattle.plan.specs.Replaced.{Replaced, replaced, replaced_by}
 use Rattle.event.specs.Event.{event_of}
 use Rattle.event.specs.Site.{Layout, own}
@@ -32,12 +32,12 @@ use Rattle.guard.specs.Rule.{rule_byte}
 use Rattle.guard.specs.Bytes.{encode}
 use Rattle.writer.specs.Written.{Filled, filled, written, written_number, fitted, write_of}
 use Rattle.writer.specs.declared.Written.TheVariants.{Done, Refused}
-use Rattle.site.specs.Verdict.{verdict_number}
-use Rattle.site.specs.Step.{Stepped, step_invalid, step_at, hear_of}
+use Rattle.site.specs.Verdict.{report_of, verdict_number}
+use Rattle.site.specs.declared.Refusal.TheVariants.{Invalid}
+use Rattle.site.specs.declared.Verdict.TheVariants as verdict
+use Rattle.site.specs.Step.{Stepped, stepped, step_invalid, step_at, hear_of}
 use Rattle.site.proofs.StepLaws.{step-leaves}
-use Rattle.row.specs.Row.{heard_in, hear}
-use Rattle.audience.specs.Call.{own_audience, audience_of}
-use Rattle.merge.specs.Merge.{merged, new_events, merge_number, merge_of}
+use Rattle.row.specs.Row.{hear}
 use Rattle.central.specs.Central.{allowed}
 use Rattle.central.specs.Rule.{Ruled, ruled, ruling_number, state_of, rule_invalid, marks_after, notes_after, rule_on, rule_of}
 use Rattle.central.specs.declared.Ruling.TheVariants as ruling
@@ -81,26 +81,24 @@ pub load-leaves : (p : List ℕ) (s c : ℕ) (b : List ℕ) → ((load_of p s c 
 unfolding load_of
 load-leaves p s c b = replaced-leaves b (load_number p c b) (load (size p) c s)
 
--- a number, and new bytes with a value where it is 0
-output-leaves : (b : List ℕ) (n k : ℕ) (new : List ℕ) → Leaving (λ (a : Output). a.number) (λ a. (a.out ≡ b) × (a.value ≡ 0)) (cond (not (eqb n 0)) (output n 0 b) (output 0 k new))
-output-leaves b n k new = tested (λ (a : Output). a.number) (λ a. (a.out ≡ b) × (a.value ≡ 0)) n (output n 0 b) (output 0 k new) (refl, refl) (λ e. refl)
-
-pub repeat-leaves : (p : List ℕ) (v r : ℕ) (b : List ℕ) → ((repeat_of p v r b).number ≡ 0 → ⊥) → ((repeat_of p v r b).out ≡ b) × ((repeat_of p v r b).value ≡ 0)
+pub repeat-leaves : (p : List ℕ) (v r : ℕ) (b : List ℕ) → ((repeat_of p v r b).number ≡ 0 → ⊥) → ((repeat_of p v r b).out ≡ b) × ((repeat_of p v r b).nodes ≡ 0)
 unfolding repeat_of
-repeat-leaves p v r b = output-leaves b (repeat_number p v r b) (size (repeated p v r)) (in_front (repeated p v r) b)
+repeat-leaves p v r b =
+    tested (λ (a : Made). a.number) (λ a. (a.out ≡ b) × (a.nodes ≡ 0)) (repeat_number p v r b) (made (repeat_number p v r b) 0 b)
+    (made 0 (size (repeated p v r)) (in_front (repeated p v r) b)) (refl, refl) (λ e. refl)
 
-given-leaves : (b : List ℕ) (o : Option (List ℕ)) → ((given o b).number ≡ 0 → ⊥) → ((given o b).out ≡ b) × ((given o b).value ≡ 0)
+given-leaves : (b : List ℕ) (o : Option (List ℕ)) → ((given o b).number ≡ 0 → ⊥) → ((given o b).out ≡ b) × ((given o b).nodes ≡ 0)
 unfolding given
 given-leaves b none = λ n. (refl, refl)
 given-leaves b (some q) =
-    choice (λ (a : Output). (a.number ≡ 0 → ⊥) → (a.out ≡ b) × (a.value ≡ 0)) (not (eqb (length b) 10)) (output 7 0 b) (output 0 (size q) (in_front q b))
+    choice (λ (a : Made). (a.number ≡ 0 → ⊥) → (a.out ≡ b) × (a.nodes ≡ 0)) (not (eqb (length b) 10)) (made 7 0 b) (made 0 (size q) (in_front q b))
     (λ z n. (refl, refl)) (λ z n. absurd (n refl))
 
-pub next-leaves : (p b : List ℕ) → ((next_of p b).number ≡ 0 → ⊥) → ((next_of p b).out ≡ b) × ((next_of p b).value ≡ 0)
+pub next-leaves : (p b : List ℕ) → ((next_of p b).number ≡ 0 → ⊥) → ((next_of p b).out ≡ b) × ((next_of p b).nodes ≡ 0)
 unfolding next_of
 next-leaves p b =
-    choice (λ (a : Output). (a.number ≡ 0 → ⊥) → (a.out ≡ b) × (a.value ≡ 0)) (not (eqb (check_number p) 0)) (output (check_number p) 0 b) _ (λ z n. (refl, refl))
-    (λ z. choice (λ (a : Output). (a.number ≡ 0 → ⊥) → (a.out ≡ b) × (a.value ≡ 0)) (not (leb (size p) 5)) (output 27 0 b) _ (λ z n. (refl, refl))
+    choice (λ (a : Made). (a.number ≡ 0 → ⊥) → (a.out ≡ b) × (a.nodes ≡ 0)) (not (eqb (check_number p) 0)) (made (check_number p) 0 b) _ (λ z n. (refl, refl))
+    (λ z. choice (λ (a : Made). (a.number ≡ 0 → ⊥) → (a.out ≡ b) × (a.nodes ≡ 0)) (not (leb (size p) 5)) (made 27 0 b) _ (λ z n. (refl, refl))
     (λ z. given-leaves b (next_plan p)))
 
 pub depths-leave : (p d : List ℕ) → ((depths_of p d).number ≡ 0 → ⊥) → (depths_of p d).depths ≡ d
@@ -133,28 +131,11 @@ module _ (b : List ℕ) where
 pub step_left : (p : List ℕ) (q code node : ℕ) (row : List ℕ) → Leaving (λ (s : Stepped). verdict_number s.verdict) (λ s. s.row ≡ row) (step_at p q code node row)
 step_left p q code node row h = step-leaves p q code node row ∙ rw (ne_eqb (verdict_number (step_at p q code node row).verdict) 0 h)
 
-pub hear-leaves : (p : List ℕ) (code node : ℕ) (row : List ℕ) → (message_number p code node row ≡ 0 → ⊥) → ((hear_of p code node row).out ≡ row) × ((hear_of p code node row).value ≡ 0)
-unfolding hear_of
+pub hear-leaves : (p : List ℕ) (code node : ℕ) (row : List ℕ) → (message_number p code node row ≡ 0 → ⊥) → (hear_of p code node row).row ≡ row
+unfolding hear_of report_of
 hear-leaves p code node row =
-    output-leaves row (step_invalid p code node row) (cond (heard_in row code node) 0 1) (hear row code node)
-
--- rows merged, and an audience
-pub merge-leaves : (p row other : List ℕ) → ((merge_of p row other).number ≡ 0 → ⊥) → ((merge_of p row other).out ≡ row) × ((merge_of p row other).value ≡ 0)
-unfolding merge_of
-merge-leaves p row other = output-leaves row (merge_number p row other) (new_events p row other) (merged row other)
-
-front-leaves : (b : List ℕ) (k : ℕ) (x : List ℕ) → ((put_front k x b).number ≡ 0 → ⊥) → ((put_front k x b).out ≡ b) × ((put_front k x b).value ≡ 0)
-unfolding put_front
-front-leaves b k x =
-    choice (λ (a : Output). (a.number ≡ 0 → ⊥) → (a.out ≡ b) × (a.value ≡ 0)) (not (leb (length x) (length b))) (output 7 0 b) (output 0 k (in_front x b))
-    (λ z n. (refl, refl)) (λ z n. absurd (n refl))
-
-pub audience-leaves : (p : List ℕ) (code node : ℕ) (b : List ℕ) → ((audience_of p code node b).number ≡ 0 → ⊥) → ((audience_of p code node b).out ≡ b) × ((audience_of p code node b).value ≡ 0)
-unfolding audience_of
-audience-leaves p code node b =
-    let x = own_audience p code node in
-    choice (λ (a : Output). (a.number ≡ 0 → ⊥) → (a.out ≡ b) × (a.value ≡ 0)) (not (eqb (invalid p true true code node) 0)) (output (invalid p true true code node) 0 b)
-    (put_front (length x) x b) (λ z n. (refl, refl)) (λ z. front-leaves b (length x) x)
+    let n = step_invalid p code node row in
+    tested (λ (s : Stepped). verdict_number s.verdict) (λ s. s.row ≡ row) n (stepped row (verdict.Refused (Invalid n))) (stepped (hear row code node) verdict.Heard) refl (λ e. refl)
 
 pub simulate-leaves : (p : List ℕ) (code node q : ℕ) (st : List ℕ) → (simulate_number p code node q st ≡ 0 → ⊥) → (simulate_of p code node q st).state ≡ st
 unfolding simulate_of

@@ -13,8 +13,8 @@ use Rattle.simulation.proofs.OwnLaws.{own-laid}
 use Rattle.depth_form.proofs.Main.{form-exact}
 use Rattle.desks.proofs.Main.{desk-check-exact}
 use Rattle.refusals.specs.Claim.{RefusalsLeave, AcceptedPass, Demand1}
-use Rattle.refusals.proofs.Leaves.{rewrite-leaves, renumber-leaves, to-depths-leaves, from-depths-leaves, repeat-leaves, next-leaves, load-leaves, depths-leave, guard-leaves, step_left, hear-leaves, audience-leaves, merge-leaves, simulate-leaves, central-leaves, pass-leaves, impact-leaves, way-leaves, pass-record-leaves, record-leaves, run-leaves, text-leaves, printing-leaves, keep_left, undo-left}
-use Rattle.refusals.proofs.Passes.{common-right, rewrite-passes, from-depths-passes, renumber-passes, to-depths-passes, repeat-later, next-later, load-passes, depths-pass, guard-passes, step-later, hear-later, audience-later, merge-later, central-later, pass-passes, impact-later, way_later, pass-record-passes, record-passes, run-passes}
+use Rattle.refusals.proofs.Leaves.{rewrite-leaves, renumber-leaves, to-depths-leaves, from-depths-leaves, repeat-leaves, next-leaves, load-leaves, depths-leave, guard-leaves, step_left, hear-leaves, simulate-leaves, central-leaves, pass-leaves, impact-leaves, way-leaves, pass-record-leaves, record-leaves, run-leaves, text-leaves, printing-leaves, keep_left, undo-left}
+use Rattle.refusals.proofs.Passes.{common-right, rewrite-passes, from-depths-passes, renumber-passes, to-depths-passes, repeat-later, next-later, load-passes, depths-pass, guard-passes, step-later, hear-later, central-later, pass-passes, impact-later, way_later, pass-record-passes, record-passes, run-passes}
 use Rattle.refusals.proofs.Simulated.{simulate-later}
 use Rattle.refusals.proofs.Journal.{keep-later, undo-later}
 use Rattle.refusals.proofs.Points.{name-leaves, name-later, undo-leaves, back-leaves, point-undo-later, point-back-later}
@@ -33,8 +33,6 @@ refusals-leave = record {
   guarded = λ p code node b. guard-leaves b p code node;
   step = λ p code node row. step_left p (site_at p code node) code node row;
   hear = hear-leaves;
-  audience = audience-leaves;
-  merge = merge-leaves;
   simulate = simulate-leaves;
   keep = λ p st es k code node q. keep_left p (own p) (λ r. r) st es k code node q;
   undo = λ p st es k. undo-left p (own p) (λ r. r) st es k;
@@ -74,8 +72,6 @@ accepted-pass p ok = record {
   guarded = guard-passes p ok;
   step = λ code node row long. step-later p ok code node row long (site_at p code node);
   hear = hear-later p ok;
-  audience = audience-later p ok;
-  merge = merge-later p ok;
   simulate = λ code node q st long. simulate-later p (own p) st (own-laid p st ok long) (step_from code node q);
   keep = λ st es k code node q long room. keep-later p (own p) (λ r. r) st (own-laid p st ok long) es k code node q room;
   undo = λ st es k long within. undo-later p (own p) (λ r. r) st (own-laid p st ok long) es k within;

@@ -11,9 +11,8 @@ use Rattle.lists.specs.Seq.{all_below}
 use Rattle.lists.proofs.Logic.{cases, decided, and-join}
 use Rattle.plan.specs.Plan.{task, kind, size, is_kind}
 use Rattle.plan.specs.Check.{Accepted, fit_number}
-use Rattle.plan.specs.Output.{Output, output, put_front}
+use Rattle.plan.specs.Made.{Made, made}
 use Rattle.plan.specs.Replaced.{replaced_by}
-use Rattle.plan.proofs.OutputLaws.{front-done}
 use Rattle.plan.proofs.Main.{check-exact, fit-exact}
 use Rattle.event.specs.Event.{event_of, known, applies}
 use Rattle.event.specs.Site.{Layout, own}
@@ -40,9 +39,7 @@ use Rattle.site.specs.Step.{Stepped, stepped, step_invalid, decide, step_at, hea
 use Rattle.site.specs.declared.Refusal.TheVariants.{Invalid}
 use Rattle.site.specs.declared.Verdict.TheVariants as verdict
 use Rattle.site.proofs.StepLaws.{decision-10, decision-11, decision-0}
-use Rattle.row.specs.Row.{heard_in, heard, hear}
-use Rattle.audience.specs.Call.{own_audience, audience_of}
-use Rattle.merge.specs.Merge.{row_applies, rows_fit, merge_number, merge_of}
+use Rattle.row.specs.Row.{heard, hear}
 use Rattle.central.specs.Central.{allowed}
 use Rattle.central.specs.Rule.{Ruled, ruled, ruling_number, right_size, state_of, rule_invalid, marks_after, notes_after, rule_on, rule_of}
 use Rattle.central.specs.declared.Ruling.TheVariants as ruling
@@ -112,7 +109,7 @@ module _ (p : List ℕ) (ok : Accepted p) where
 
   pub repeat-later : (v r : ℕ) (b : List ℕ) → length b ≡ 320 → Later (repeat_of p v r b).number
   unfolding repeat_of
-  repeat-later v r b e = choice (λ (a : Output). Later a.number) (not (eqb (repeat_number p v r b) 0)) (output (repeat_number p v r b) 0 b) _ (λ z. repeat-number v r b e) (λ z. none-later)
+  repeat-later v r b e = choice (λ (a : Made). Later a.number) (not (eqb (repeat_number p v r b) 0)) (made (repeat_number p v r b) 0 b) _ (λ z. repeat-number v r b e) (λ z. none-later)
 
   given-later : (b : List ℕ) → length b ≡ 10 → (o : Option (List ℕ)) → Later (given o b).number
   unfolding given
@@ -122,7 +119,7 @@ module _ (p : List ℕ) (ok : Accepted p) where
   pub next-later : (b : List ℕ) → length b ≡ 10 → Later (next_of p b).number
   unfolding next_of
   next-later b e = rw ((check-exact p).1 ok)
-      (choice (λ (a : Output). Later a.number) (not (leb (size p) 5)) (output 27 0 b) _ (λ z. later 27 refl) (λ z. given-later b e (next_plan p)))
+      (choice (λ (a : Made). Later a.number) (not (leb (size p) 5)) (made 27 0 b) _ (λ z. later 27 refl) (λ z. given-later b e (next_plan p)))
 
   pub depths-pass : (d : List ℕ) → length d ≡ size p → (depths_of p d).number ≡ 0
   unfolding depths_of depths_number
@@ -159,28 +156,10 @@ module _ (p : List ℕ) (ok : Accepted p) where
         (λ e. choice P unmet (decision-11 p q code node row) (decision-0 p q code node row) (λ e. later 11 refl) (λ e. none-later)))
 
     pub hear-later : Later (message_number p code node row)
-    unfolding hear_of
+    unfolding hear_of report_of
     hear-later =
         let n = step_invalid p code node row in
-        choice (λ (a : Output). Later a.number) (not (eqb n 0)) (output n 0 row) (output 0 (cond (heard_in row code node) 0 1) (hear row code node)) (λ e. test-later) (λ e. none-later)
-
-  pub audience-later : (code node : ℕ) (b : List ℕ) → length (own_audience p code node) ≤ length b → Later (audience_of p code node b).number
-  unfolding audience_of
-  audience-later code node b l =
-      let n = invalid p true true code node in
-      let x = own_audience p code node in
-      choice (λ (a : Output). Later a.number) (not (eqb n 0)) (output n 0 b) (put_front (length x) x b)
-      (λ e. invalid-later true true code node refl) (λ e. rw (front-done (length x) x b l) none-later)
-
-  merge-number : (row other : List ℕ) → length row ≡ size p → length other ≡ size p → Later (merge_number p row other)
-  unfolding merge_number rows_fit
-  merge-number row other lr lo = rw (fit (eqb (length row) (size p) && eqb (length other) (size p)) (and-join _ _ (one row lr) (one other lo)))
-      (choice Later (row_applies p row && row_applies p other) 0 9 (λ e. none-later) (λ e. later 9 refl))
-
-  pub merge-later : (row other : List ℕ) → length row ≡ size p → length other ≡ size p → Later (merge_of p row other).number
-  unfolding merge_of
-  merge-later row other lr lo = choice (λ (a : Output). Later a.number) (not (eqb (merge_number p row other) 0)) (output (merge_number p row other) 0 row) _
-      (λ z. merge-number row other lr lo) (λ z. none-later)
+        choice (λ (s : Stepped). Later (verdict_number s.verdict)) (not (eqb n 0)) (stepped row (verdict.Refused (Invalid n))) (stepped (hear row code node) verdict.Heard) (λ e. test-later) (λ e. none-later)
 
   pub central-later : (code node : ℕ) (m k : List ℕ) → length m ≡ size p → length k ≡ size p → Later (rule_number p code node m k)
   unfolding rule_of rule_invalid right_size rule_on ruling_number

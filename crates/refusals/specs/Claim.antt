@@ -20,8 +20,6 @@ use Rattle.guard.specs.Bytes.{encode}
 use Rattle.writer.specs.Written.{written_number, write_of}
 use Rattle.site.specs.Verdict.{verdict_number}
 use Rattle.site.specs.Step.{step_of, hear_of}
-use Rattle.audience.specs.Call.{own_audience, audience_of}
-use Rattle.merge.specs.Merge.{merge_of}
 use Rattle.central.specs.Rule.{ruling_number, rule_of}
 use Rattle.pass.specs.Pass.{pass_into}
 use Rattle.reach.specs.Impact.{impact_into}
@@ -43,7 +41,7 @@ abbrev pub event_number : List ℕ → ℕ → ℕ → List ℕ → ℕ
 event_number p code node row = verdict_number (step_of p code node row).verdict
 
 abbrev pub message_number : List ℕ → ℕ → ℕ → List ℕ → ℕ
-message_number p code node row = (hear_of p code node row).number
+message_number p code node row = verdict_number (hear_of p code node row).verdict
 
 abbrev pub simulate_number : List ℕ → ℕ → ℕ → ℕ → List ℕ → ℕ
 simulate_number p code node q st = verdict_number (simulate_of p code node q st).verdict
@@ -80,9 +78,9 @@ pub record RefusalsLeave : Type 0 where
   -- vulcedar_from_depths
   pub from-depths : (d b : List ℕ) → ((from_depths_of d b).number ≡ 0 → ⊥) → (from_depths_of d b).out ≡ b
   -- vulcedar_repeat, which then has no value either
-  pub repeat : (p : List ℕ) (v r : ℕ) (b : List ℕ) → ((repeat_of p v r b).number ≡ 0 → ⊥) → ((repeat_of p v r b).out ≡ b) × ((repeat_of p v r b).value ≡ 0)
+  pub repeat : (p : List ℕ) (v r : ℕ) (b : List ℕ) → ((repeat_of p v r b).number ≡ 0 → ⊥) → ((repeat_of p v r b).out ≡ b) × ((repeat_of p v r b).nodes ≡ 0)
   -- vulcedar_next_plan, as that
-  pub next-plan : (p b : List ℕ) → ((next_of p b).number ≡ 0 → ⊥) → ((next_of p b).out ≡ b) × ((next_of p b).value ≡ 0)
+  pub next-plan : (p b : List ℕ) → ((next_of p b).number ≡ 0 → ⊥) → ((next_of p b).out ≡ b) × ((next_of p b).nodes ≡ 0)
   -- vulcedar_workload
   pub workload : (p : List ℕ) (s c : ℕ) (b : List ℕ) → ((load_of p s c b).number ≡ 0 → ⊥) → (load_of p s c b).out ≡ b
   -- vulcedar_check_depths
@@ -91,11 +89,8 @@ pub record RefusalsLeave : Type 0 where
   pub guarded : (p : List ℕ) (code node : ℕ) (b : List ℕ) → (guard_number p code node b ≡ 0 → ⊥) → (write_of p code node b).buffer ≡ b
   -- vulcedar_step
   pub step : (p : List ℕ) (code node : ℕ) (row : List ℕ) → (event_number p code node row ≡ 0 → ⊥) → (step_of p code node row).row ≡ row
-  -- vulcedar_hear, which then has no value either
-  pub hear : (p : List ℕ) (code node : ℕ) (row : List ℕ) → (message_number p code node row ≡ 0 → ⊥) → ((hear_of p code node row).out ≡ row) × ((hear_of p code node row).value ≡ 0)
-  -- vulcedar_audience and vulcedar_merge, as that; the other row is never written
-  pub audience : (p : List ℕ) (code node : ℕ) (b : List ℕ) → ((audience_of p code node b).number ≡ 0 → ⊥) → ((audience_of p code node b).out ≡ b) × ((audience_of p code node b).value ≡ 0)
-  pub merge : (p row other : List ℕ) → ((merge_of p row other).number ≡ 0 → ⊥) → ((merge_of p row other).out ≡ row) × ((merge_of p row other).value ≡ 0)
+  -- vulcedar_hear
+  pub hear : (p : List ℕ) (code node : ℕ) (row : List ℕ) → (message_number p code node row ≡ 0 → ⊥) → (hear_of p code node row).row ≡ row
   -- vulcedar_simulate
   pub simulate : (p : List ℕ) (code node q : ℕ) (st : List ℕ) → (simulate_number p code node q st ≡ 0 → ⊥) → (simulate_of p code node q st).state ≡ st
   -- vulcedar_keep
@@ -178,10 +173,6 @@ pub record AcceptedPass (p : List ℕ) : Type 0 where
   pub step : (code node : ℕ) (row : List ℕ) → length row ≡ size p → Later (event_number p code node row)
   -- vulcedar_hear
   pub hear : (code node : ℕ) (row : List ℕ) → length row ≡ size p → Later (message_number p code node row)
-  -- vulcedar_audience
-  pub audience : (code node : ℕ) (b : List ℕ) → length (own_audience p code node) ≤ length b → Later (audience_of p code node b).number
-  -- vulcedar_merge
-  pub merge : (row other : List ℕ) → length row ≡ size p → length other ≡ size p → Later (merge_of p row other).number
   -- vulcedar_simulate
   pub simulate : (code node q : ℕ) (st : List ℕ) → length st ≡ size p * size p → Later (simulate_number p code node q st)
   -- vulcedar_keep

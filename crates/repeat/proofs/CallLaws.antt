@@ -9,7 +9,7 @@ use lib.Dec.{eqb}
 use lib.ListN.{length}
 use Rattle.plan.specs.Plan.{size, kind_byte, child_count}
 use Rattle.plan.specs.Check.{Accepted}
-use Rattle.plan.specs.Output.{output, in_front}
+use Rattle.plan.specs.Made.{made, in_front}
 use Rattle.checker.proofs.TestLaws.{passed, failed}
 use Rattle.links.specs.Links.{Linked}
 use Rattle.trees.specs.Tree.{trees_below, node_count}
@@ -29,14 +29,14 @@ module _ (p : List ℕ) (m : ℕ) (k : ℕ) (a b : Bool) (kind : k ≡ kind_byte
   unfolding can_mark
   marked = rw (block, kind, one)
 
-  pub marked-no : (r : ℕ) (out : List ℕ) → length out ≡ 320 → not (a && b) ≡ true → repeat_of p m r out ≡ output 23 0 out
+  pub marked-no : (r : ℕ) (out : List ℕ) → length out ≡ 320 → not (a && b) ≡ true → repeat_of p m r out ≡ made 23 0 out
   marked-no r out long e = call.by-mark p m r out ok long node (failed (a && b) (can_mark p m) marked e)
 
   pub marked-yes : not (a && b) ≡ false → Template p m
   marked-yes e = call.mark-told p m ok node (passed (a && b) (can_mark p m) marked e)
 
 -- t is what the test of the count says
-pub count_no : {p : List ℕ} {m : ℕ} (r : ℕ) (out : List ℕ) → Template p m → length out ≡ 320 → (t : Bool) → t ≡ times_ok r → not t ≡ true → repeat_of p m r out ≡ output 24 0 out
+pub count_no : {p : List ℕ} {m : ℕ} (r : ℕ) (out : List ℕ) → Template p m → length out ≡ 320 → (t : Bool) → t ≡ times_ok r → not t ≡ true → repeat_of p m r out ≡ made 24 0 out
 count_no {p} {m} r out h long t told e = call.by_count p m r out h long (failed t (times_ok r) told e)
 
 pub count_yes : (r : ℕ) (t : Bool) → t ≡ times_ok r → not t ≡ false → (1 ≤ r) × (r ≤ 32)
@@ -62,7 +62,7 @@ module _ {p : List ℕ} {m r n l : ℕ} (h : Counted p m r n l) where
       let z : r ≡ suc (r - 1) = omega (arith, h.times.0) in
       ap (λ i. node_count (repeated_tree p m i)) z ∙ repeat-count p h.template.accepted m h.template.node (r - 1) ∙ rw (h.nodes, h.below)
 
-  pub nodes-no : (out : List ℕ) → length out ≡ 320 → 160 < n + (r - 1) * l → repeat_of p m r out ≡ output 25 0 out
+  pub nodes-no : (out : List ℕ) → length out ≡ 320 → 160 < n + (r - 1) * l → repeat_of p m r out ≡ made 25 0 out
   nodes-no out long e = call.by-nodes p m r out h.template long h.times.0 h.times.1 (omega (arith, nodes-told))
 
   module _ (few : n + (r - 1) * l ≤ 160) where
@@ -73,7 +73,7 @@ module _ {p : List ℕ} {m r n l : ℕ} (h : Counted p m r n l) where
     pub root-ready : {first next : List ℕ} → Linked p first next → (out : List ℕ) → length out ≡ 320 → Placeable p first next out 0 0 (repeated_below p m r 0)
     root-ready links out long = record { accepted = h.template.accepted; linked = links; node = h.template.accepted.some; room = omega (arith, room); few = omega arith }
 
-    pub repeat-done : (out b : List ℕ) (w : ℕ) → length out ≡ 320 → Placed p 0 255 0 (repeated_below p m r 0) out b w → repeat_of p m r out ≡ output 0 (n + (r - 1) * l) b
+    pub repeat-done : (out b : List ℕ) (w : ℕ) → length out ≡ 320 → Placed p 0 255 0 (repeated_below p m r 0) out b w → repeat_of p m r out ≡ made 0 (n + (r - 1) * l) b
     unfolding in_front repeated repeated_tree
     repeat-done out b w long d =
         let left : b ≡ in_front (repeated p m r) out = root-placed (omega (arith, room)) d in

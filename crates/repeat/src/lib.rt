@@ -5,7 +5,7 @@
 ghost use Rattle.std.specs.Prelude.{◌≡◌, ◌<◌, eqb, length};
 ghost use Rattle.plan.specs.Plan.{size, child_count};
 ghost use Rattle.plan.specs.Check.{Accepted};
-ghost use Rattle.plan.specs.Output.{output};
+ghost use Rattle.plan.specs.Made.{made};
 ghost use Rattle.links.specs.Links.{Linked};
 ghost use Rattle.trees.specs.Tree.{trees_below, node_count};
 ghost use Rattle.placing.specs.Place.{Placeable, Placed};
@@ -14,7 +14,7 @@ ghost use Rattle.template.specs.Call.{times_ok, repeat_of};
 ghost use Rattle.template.specs.Claim.{Template};
 ghost use Rattle.repeat.specs.Copies.{Copyable, Copied};
 
-use plan::Answer;
+use plan::Made;
 
 fn can_repeat(kind: u8) -> bool
     ensures { result ≡ can_repeat kind }
@@ -103,57 +103,59 @@ fn count_below(plan: &[u8], first: &[u8; 160], next: &[u8; 160], v: usize) -> us
 }
 
 // The tests 23 to 25, in an accepted plan that has node m, and 320 lent bytes; what passes them is written.
-fn repeat_below(plan: &[u8], m: usize, count: u32, out: &mut [u8]) -> Answer
+fn repeat_below(plan: &[u8], m: usize, count: u32, out: &mut [u8]) -> Made
     requires { Accepted plan.now × (m < size plan.now) × (length out.old ≡ 320) }
-    ensures { repeat_of plan.now m count out.old ≡ output result.number result.value out.new }
+    ensures { repeat_of plan.now m count out.old ≡ made result.number result.nodes out.new }
 {
     let mut first = [0u8; 160];
     let mut next = [0u8; 160];
     links::link_all(plan, &mut first, &mut next);
     let block = can_repeat(checker::kind_at(plan, m));
     if !(block & one_child(plan, &first, &next, m)) {
-        return Answer {
+        return Made {
             number: 23,
-            value: 0,
+            nodes: 0,
         };
     }
     if !times_ok(count) {
-        return Answer {
+        return Made {
             number: 24,
-            value: 0,
+            nodes: 0,
         };
     }
     let times = count as usize;
     let nodes = plan::node_count(plan) + (times - 1) * count_below(plan, &first, &next, m);
     if 160 < nodes {
-        return Answer {
+        return Made {
             number: 25,
-            value: 0,
+            nodes: 0,
         };
     }
     place_repeated(plan, &first, &next, out, 0, 255, 0, m, times);
-    let value = nodes as u16;
-    Answer { number: 0, value }
+    Made {
+        number: 0,
+        nodes: nodes as u8,
+    }
 }
 
 // One block for each channel: the child's subtree of the marked block `node` stands `count` times. 1 to 6 by the check, 7 where `out` is not
 // 320 bytes, 8 where there is no such node, 23 where it cannot be marked, 24 for a count outside of 1 to 32, 25 for more than 160 nodes, and 0
 // with the number of nodes where the plan is written to the front of `out`.
-pub fn repeat(plan: &[u8], node: u32, count: u32, out: &mut [u8]) -> Answer
-    ensures { repeat_of plan.now node count out.old ≡ output result.number result.value out.new }
+pub fn repeat(plan: &[u8], node: u32, count: u32, out: &mut [u8]) -> Made
+    ensures { repeat_of plan.now node count out.old ≡ made result.number result.nodes out.new }
 {
     let bad = checker::fit(plan, out.len() == 320);
     if bad != 0 {
-        return Answer {
+        return Made {
             number: bad,
-            value: 0,
+            nodes: 0,
         };
     }
     let m = node as usize;
     if plan::node_count(plan) <= m {
-        return Answer {
+        return Made {
             number: 8,
-            value: 0,
+            nodes: 0,
         };
     }
     repeat_below(plan, m, count, out)

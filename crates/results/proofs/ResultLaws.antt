@@ -1,9 +1,8 @@
--- An answer with a value, the guard writer's answer, a ruling, a verdict, a text's answer, a kept step, a take-back and a naming, as results. Assumes nothing.
+-- The guard writer's answer, a ruling, a verdict, a text's answer, a kept step, a take-back and a naming, as results. Assumes nothing.
 use mathlib.Core.Path.{◌≡◌, sym, ap, ◌∙◌}
 use mathlib.Core.List.{List}
 use Prim.Native.Nat.{ℕ, ◌+◌, ◌*◌, ◌≤◌}
 use native.Mathlib.Omega.{arith}
-use Rattle.plan.specs.Output.{Output, output}
 use Rattle.event.specs.Event.{event_of}
 use Rattle.writer.specs.Written.{written_number, written_rule, written_length, filled, write_of}
 use Rattle.writer.specs.declared.WrittenGuard.{WrittenGuard}
@@ -22,12 +21,7 @@ use Rattle.journal.specs.declared.Entry.{Entry}
 use Rattle.journal.specs.Journal.{Kept, kept, Undone, undone}
 use Rattle.points.specs.Points.{points, Naming, naming}
 use Rattle.rewind.specs.Return.{Returned, returned}
-use Rattle.results.specs.Result.{result_of, of_output, of_written, of_verdict, of_ruling, of_text, AsKept, AsUndone, AsNamed, AsReturned}
-
--- an answer's result, and the lent bytes beside it
-pub output-result : (s : Output) (n k : ℕ) (b : List ℕ) → s ≡ output n k b → (r : ℕ) → r ≡ result_of n 0 k → (r ≡ of_output s) × (b ≡ s.out)
-unfolding of_output
-output-result s n k b h r e = (e ∙ sym (ap of_output h), sym (ap (λ x. x.out) h))
+use Rattle.results.specs.Result.{result_of, of_written, of_verdict, of_ruling, of_text, AsKept, AsUndone, AsNamed, AsReturned}
 
 module _ (p : List ℕ) (code node : ℕ) (b b' : List ℕ) (w : Written) (h : write_of p code node b ≡ filled b' w) where
   pub done-short : (g : WrittenGuard) → w ≡ Done g → g.length ≤ 290

@@ -1,6 +1,6 @@
 -- Results for C (rules K). Definitions only.
 use Rattle.std.specs.Prelude.{◌≡◌, List, ℕ, ◌+◌, ◌*◌}
-use Rattle.plan.specs.Output.{Output}
+use Rattle.plan.specs.Made.{Made}
 use Rattle.guard.specs.Rule.{FoundRule}
 use Rattle.writer.specs.declared.Written.{Written}
 use Rattle.writer.specs.Written.{written_number, written_rule, written_length}
@@ -19,9 +19,9 @@ use Rattle.rewind.specs.Return.{Returned}
 abbrev pub result_of : ℕ → ℕ → ℕ → ℕ
 result_of n q v = n + 256 * q + 65536 * v
 
--- K2: the number and the value; there is no site
-unfoldable pub of_output : Output → ℕ
-of_output a = result_of a.number 0 a.value
+-- K2, S8: the number of nodes of the plan that was written is the value
+unfoldable pub of_made : Made → ℕ
+of_made a = result_of a.number 0 a.nodes
 
 -- K2: the guard's length is the value; its rule stands where there is no site
 unfoldable pub of_written : Written → ℕ

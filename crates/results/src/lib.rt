@@ -29,13 +29,6 @@ pub fn with_value(number: u8, site: u8, value: u8) -> u32
     packed(number, site) + 65536 * plan::wide32(value)
 }
 
-// The result of an answer that has a value and no site.
-pub fn of_answer(a: plan::Answer) -> u32
-    ensures { result ≡ result_of a.number 0 a.value }
-{
-    packed(a.number, 0) + 65536 * (a.value as u32)
-}
-
 // The result of a refusal.
 pub fn of_refusal(why: site::Refusal) -> u32
     ensures { result ≡ of_verdict (Refused why) }

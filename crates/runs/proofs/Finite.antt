@@ -6,8 +6,8 @@ use mathlib.Core.List.{List, [], ◌∷◌}
 use Rattle.lists.specs.Seq.{all}
 use Rattle.lists.specs.Member.{In, here, there}
 use Rattle.lists.proofs.Members.{all-at}
-use Rattle.event.specs.Event.{Code, codes}
-use Rattle.event.proofs.CodeLaws.{in-codes}
+use Rattle.event.specs.Event.{Code}
+use Rattle.event.proofs.CodeLaws.{codes, in-codes}
 use Rattle.central.specs.Mark.{Mark}
 use Rattle.central.specs.Central.{Answer, none, said-yes, said-no}
 use Rattle.central.proofs.MarkLaws.{marks, in-marks}

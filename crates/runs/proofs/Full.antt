@@ -15,7 +15,7 @@ use Rattle.plan.specs.Check.{Accepted}
 use Rattle.event.specs.Event.{Code, start, offer, commit, abort, answered-yes, answered-no, pick, down, Event, at, same, among, applies_by, applies}
 use Rattle.event.specs.Site.{host_by, host_of, Layout, Housed, site_of}
 use Rattle.central.specs.Central.{fresh, allowed, run_from, is_run, reaches}
-use Rattle.event.proofs.EventLaws.{same-event, same_self}
+use Rattle.runs.proofs.Said.{same-event, same_self}
 use Rattle.runs.proofs.Family.{xor-child}
 use Rattle.runs.proofs.Fits.{guards-follow}
 use Rattle.runs.proofs.RunLaws.{reaches-append, among-more}

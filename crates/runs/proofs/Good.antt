@@ -16,8 +16,7 @@ use Rattle.plan.proofs.PlanLaws.{child-in}
 use Rattle.event.specs.Event.{start, offer, commit, abort, answered-yes, answered-no, pick, down, Event, at, same, applies_by, applies}
 use Rattle.central.specs.Mark.{offered, committed, failed, turned_down}
 use Rattle.central.specs.Central.{Answer, none, said-yes, said-no, Central, fresh, after, is_yes, is_no, marked, started, reached_by, may_start, of_branch, finishes_by, fails_by, allowed_by, allowed, run_from, is_run, reaches}
-use Rattle.runs.proofs.Said.{said_by, said, said-after, said-fresh}
-use Rattle.event.proofs.EventLaws.{same-event}
+use Rattle.runs.proofs.Said.{said_by, said, said-after, said-fresh, same-event}
 use Rattle.runs.proofs.Family.{xor-child}
 
 -- Of the events that a state says happened: a started node was in its place, each event applies, a pick was of an offered child and the only one

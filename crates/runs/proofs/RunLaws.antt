@@ -12,8 +12,8 @@ use Rattle.lists.proofs.Logic.{cases, no_bool, clash, decided}
 use Rattle.lists.proofs.Members.{any-by, any_at, in-up}
 use Rattle.lists.proofs.Points.{in_left, in_right, any_snoc, map-in}
 use Rattle.plan.specs.Plan.{size}
-use Rattle.event.specs.Event.{Event, at, same, among, every}
-use Rattle.event.proofs.EventLaws.{in-every}
+use Rattle.event.specs.Event.{Event, at, same, among}
+use Rattle.event.proofs.CodeLaws.{codes, in-codes}
 use Rattle.central.specs.Central.{Central, fresh, after, allowed, run_from, is_run, reaches}
 use Rattle.runs.specs.Claims.{Stuck, RunsEnd}
 use Rattle.runs.proofs.Count.{allowed-node, count}
@@ -41,11 +41,22 @@ pub among-more : (es : List Event) (e f : Event) → among (es ++ (e ∷ [])) f 
 unfolding among
 among-more es e f = any_snoc (λ g. same g f) es e
 
+-- the events of nodes
+node_events : List ℕ → List Event
+node_events [] = []
+node_events (v ∷ vs) = map (λ c. at c v) codes ++ node_events vs
+
+event-in : (e : Event) {vs : List ℕ} → In e.node vs → In e (node_events vs)
+unfolding node_events
+event-in e (here {y = v} {xs = vs} q) =
+    in_left (node_events vs) (subst (λ (w : ℕ). In e (map (λ c. at c w) codes)) q (map-in (λ c. at c e.node) (in-codes e.code)))
+event-in e (there {y = v} {xs = vs} i) = in_right (map (λ c. at c v) codes) (event-in e i)
+
 next-event : (p : List ℕ) (s : Central) → ((e : Event) × (allowed p s e ≡ true)) ⊎ (Stuck p s)
-next-event p s = cases (decided (any (allowed p s) (every p)))
-    (λ h. let r = any_at (allowed p s) (every p) h in inl (r.0, r.2))
+next-event p s = cases (decided (any (allowed p s) (node_events (up_from 0 (size p)))))
+    (λ h. let r = any_at (allowed p s) (node_events (up_from 0 (size p))) h in inl (r.0, r.2))
     (λ h. inr (λ e. no_bool (allowed p s e) (λ k.
-    clash _ (any-by (allowed p s) (in-every p e (let l = allowed-node p s e k in omega arith)) k) h)))
+    clash _ (any-by (allowed p s) (event-in e (in-up 0 (size p) e.node (omega arith) (allowed-node p s e k))) k) h)))
 
 module _ (p : List ℕ) where
   abbrev Ends : List Event → Type 0

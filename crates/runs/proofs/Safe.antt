@@ -18,7 +18,7 @@ use Rattle.event.specs.Event.{Code, start, offer, commit, abort, answered-yes, a
 use Rattle.event.specs.Site.{host_by, host_of, Layout, site_of}
 use Rattle.guard.specs.Guard.{guard, holds, bars_by, bars, barred}
 use Rattle.central.specs.Central.{fresh, allowed, run_from, is_run, reaches}
-use Rattle.event.proofs.EventLaws.{same-event}
+use Rattle.runs.proofs.Said.{same-event}
 use Rattle.runs.proofs.Fits.{guards-follow}
 use Rattle.runs.proofs.RunLaws.{run_more, among-more}
 use Rattle.runs.proofs.Net.{Move, occur, relay, learn, passes, relayed, moved, passed_by, passed_in, moved_all, silence}

@@ -9,8 +9,8 @@ use Rattle.lists.specs.Seq.{all, any}
 use Rattle.lists.proofs.Logic.{and_left, and-join, parts}
 use Rattle.lists.proofs.Members.{all-at}
 use Rattle.plan.specs.Plan.{kind, in_xor}
-use Rattle.event.specs.Event.{Code, start, offer, commit, abort, answered-yes, answered-no, pick, down, code_number, code_of, same_code, Event, same, among, applies_by, applies, codes}
-use Rattle.event.proofs.CodeLaws.{in-codes}
+use Rattle.event.specs.Event.{Code, start, offer, commit, abort, answered-yes, answered-no, pick, down, code_number, code_of, same_code, Event, same, among, applies_by, applies}
+use Rattle.event.proofs.CodeLaws.{codes, in-codes, code-back}
 use Rattle.event.proofs.BitLaws.{beq-true}
 use Rattle.central.specs.Mark.{Mark, idle, running, offered, committed, failed, turned_down, mark_number, is_mark}
 use Rattle.central.specs.Central.{Answer, none, Central, fresh, mark_after, answer_after, picked_after, after, is_yes, is_no, allowed_by, allowed, run_from, is_run, reaches}
@@ -124,3 +124,15 @@ history p es f h = sym (said-from p fresh es f h ∙ (rw (said-fresh p f, or-fal
 
 pub happened : (p : List ℕ) (es : List Event) → is_run p es ≡ true → among es ≡ said p (reaches fresh es)
 happened p es h = fun_ext (λ f. history p es f h)
+
+pub same-event : (e f : Event) → same e f ≡ true → e ≡ f
+unfolding same same_code
+same-event e f h =
+    let q : e.code ≡ f.code =
+    sym (code-back e.code) ∙ ap code_of (eqb-true (code_number e.code) (code_number f.code) (search parts)) ∙ code-back f.code in
+    let r : e.node ≡ f.node = eqb-true e.node f.node (search parts) in
+    λ i. record { code = q i; node = r i }
+
+pub same_self : (e : Event) → same e e ≡ true
+unfolding same same_code
+same_self e = and-join _ _ (eq-eqb (code_number e.code) (code_number e.code) refl) (eq-eqb e.node e.node refl)

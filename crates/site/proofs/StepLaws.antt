@@ -8,15 +8,14 @@ use lib.Dec.{eqb}
 use lib.ListN.{length}
 use Rattle.lists.proofs.Logic.{cases, decided}
 use Rattle.plan.specs.Plan.{size}
-use Rattle.plan.specs.Output.{output}
 use Rattle.event.specs.Event.{event_of}
 use Rattle.event.specs.Valid.{Valid}
 use Rattle.event.proofs.ValidLaws.{valid}
 use Rattle.guard.specs.Guard.{guard, holds, barred}
 use Rattle.guard.specs.Rule.{rule_byte}
-use Rattle.row.specs.Row.{heard_in, heard, hear}
+use Rattle.row.specs.Row.{heard, hear}
 use Rattle.site.specs.declared.Refusal.TheVariants.{Invalid, Barred, Unmet}
-use Rattle.site.specs.declared.Verdict.TheVariants.{Passed, Refused}
+use Rattle.site.specs.declared.Verdict.TheVariants.{Passed, Heard, Refused}
 use Rattle.site.specs.Verdict.{report_of, verdict_number}
 use Rattle.site.specs.Step.{Stepped, stepped, step_invalid, decide, step_at, hear_of}
 
@@ -29,11 +28,11 @@ three P x y z false true = z
 
 -- MESSAGES
 module _ (p : List ℕ) (code node : ℕ) (row : List ℕ) where
-  pub hear-valid : step_invalid p code node row ≡ 0 → (b : Bool) → b ≡ heard_in row code node → hear_of p code node row ≡ output 0 (cond b 0 1) (hear row code node)
+  pub hear-valid : step_invalid p code node row ≡ 0 → hear_of p code node row ≡ stepped (hear row code node) Heard
   unfolding hear_of
-  hear-valid h b e = rw (eq-eqb (step_invalid p code node row) 0 h, e)
+  hear-valid h = rw (eq-eqb (step_invalid p code node row) 0 h)
 
-  pub hear-invalid : (n : ℕ) → n ≡ step_invalid p code node row → (n ≡ 0 → ⊥) → hear_of p code node row ≡ output n 0 row
+  pub hear-invalid : (n : ℕ) → n ≡ step_invalid p code node row → (n ≡ 0 → ⊥) → hear_of p code node row ≡ stepped row (Refused (Invalid n))
   unfolding hear_of
   hear-invalid n e h = rw (← e, ne_eqb n 0 h)
 

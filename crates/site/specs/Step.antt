@@ -1,18 +1,17 @@
 -- A site's step and a message to it (rules H16 and H17), each as one value: the answer and the row. Definitions only.
 use Rattle.std.specs.Prelude.{true, cond, not, List, ℕ, eqb, length}
 use Rattle.plan.specs.Plan.{size}
-use Rattle.plan.specs.Output.{Output, output}
 use Rattle.event.specs.Event.{event_of}
 use Rattle.event.specs.Site.{own, site_of}
 use Rattle.event.specs.Valid.{invalid}
 use Rattle.guard.specs.Guard.{guard, holds, barred}
 use Rattle.guard.specs.Rule.{rule_byte}
-use Rattle.row.specs.Row.{heard_in, heard, hear}
+use Rattle.row.specs.Row.{heard, hear}
 use Rattle.site.specs.declared.Refusal.TheVariants.{Invalid, Barred, Unmet}
 use Rattle.site.specs.declared.Verdict.{Verdict}
-use Rattle.site.specs.declared.Verdict.TheVariants.{Passed, Refused}
+use Rattle.site.specs.declared.Verdict.TheVariants.{Passed, Heard, Refused}
 
--- H16: the row that a step leaves, and its verdict
+-- H16, H17: the row that a call leaves, and its verdict
 pub record Stepped : Type 0 where
   pub row : List ℕ
   pub verdict : Verdict
@@ -45,8 +44,8 @@ step_at p q code node row =
 abbrev pub step_of : List ℕ → ℕ → ℕ → List ℕ → Stepped
 step_of p code node row = step_at p (site_at p code node) code node row
 
--- H17, K2: a message sets the event, and the value is 1 where it is new and 0 for a repeat. A site cannot know whether a message is true
-unfoldable pub hear_of : List ℕ → ℕ → ℕ → List ℕ → Output
+-- H17: the event is set. A site cannot know whether a message is true
+unfoldable pub hear_of : List ℕ → ℕ → ℕ → List ℕ → Stepped
 hear_of p code node row =
-    cond (not (eqb (step_invalid p code node row) 0)) (output (step_invalid p code node row) 0 row)
-    (output 0 (cond (heard_in row code node) 0 1) (hear row code node))
+    cond (not (eqb (step_invalid p code node row) 0)) (stepped row (Refused (Invalid (step_invalid p code node row))))
+    (stepped (hear row code node) Heard)

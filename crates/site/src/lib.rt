@@ -5,12 +5,9 @@
 
 ghost use Rattle.std.specs.Prelude.{◌≡◌, ◌<◌};
 ghost use Rattle.plan.specs.Plan.{size};
-ghost use Rattle.plan.specs.Output.{output};
 ghost use Rattle.plan.specs.Check.{Accepted};
 ghost use Rattle.site.specs.Verdict.{reported, report_of};
 ghost use Rattle.site.specs.Step.{stepped, decide, step_of, hear_of};
-
-use plan::Answer;
 
 // An event that passed, with its site and the rule behind its guard.
 #[derive(Drop)]
@@ -68,29 +65,16 @@ pub fn report_of(v: Verdict) -> Report
     }
 }
 
-// A message to a site: the event is set in its row. The value is 1 where it is new, and 0 for a repeat.
-pub fn hear(plan: &[u8], code: u32, node: u32, row: &mut [u8]) -> Answer
-    ensures { hear_of plan.now code node row.old ≡ output result.number result.value row.new }
+// A message to a site: the event is set in its row.
+pub fn hear(plan: &[u8], code: u32, node: u32, row: &mut [u8]) -> Verdict
+    ensures { hear_of plan.now code node row.old ≡ stepped row.new result }
 {
     let n = event::validate(plan, row.len() == plan::node_count(plan), true, code, node);
     if n != 0 {
-        return Answer {
-            number: n,
-            value: 0,
-        };
+        return Verdict::Refused(Refusal::Invalid(n));
     }
-    let repeat = row::heard(row, code as u8, node as usize);
     row::set_heard(row, code as u8, node as u8);
-    if repeat {
-        return Answer {
-            number: 0,
-            value: 0,
-        };
-    }
-    Answer {
-        number: 0,
-        value: 1,
-    }
+    Verdict::Heard
 }
 
 // What a site decides of an event on its row, where the tests have passed: the bars, the guard, and then the event is set. The answer names the site.

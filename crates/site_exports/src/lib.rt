@@ -8,7 +8,7 @@ ghost use Rattle.guard.specs.Rule.{rule_answer};
 ghost use Rattle.writer.specs.Written.{write_of};
 ghost use Rattle.site.specs.Step.{step_of, hear_of};
 ghost use Rattle.central.specs.Rule.{rule_of};
-ghost use Rattle.results.specs.Result.{of_output, of_written, of_found_rule, of_verdict, of_ruling};
+ghost use Rattle.results.specs.Result.{of_written, of_found_rule, of_verdict, of_ruling};
 
 #[unsafe(no_mangle)]
 pub extern "C" fn vulcedar_guard(plan: &[u8], code: u32, node: u32, buf: &mut [u8]) -> u32
@@ -45,10 +45,10 @@ pub extern "C" fn vulcedar_step(plan: &[u8], code: u32, node: u32, row: &mut [u8
 
 #[unsafe(no_mangle)]
 pub extern "C" fn vulcedar_hear(plan: &[u8], code: u32, node: u32, row: &mut [u8]) -> u32
-    ensures value { result ≡ of_output (hear_of plan.now code node row.old) }
-    ensures row_after { row.new ≡ (hear_of plan.now code node row.old).out }
+    ensures value { result ≡ of_verdict (hear_of plan.now code node row.old).verdict }
+    ensures row_after { row.new ≡ (hear_of plan.now code node row.old).row }
 {
-    results::of_answer(site::hear(plan, code, node, row))
+    results::of_verdict(site::hear(plan, code, node, row))
 }
 
 #[unsafe(no_mangle)]

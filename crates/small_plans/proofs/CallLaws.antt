@@ -10,7 +10,7 @@ use borrow.Author.Tests.{eqb-true, eqb-false, eq-eqb, ne_eqb, leb-true, leb-fals
 use Rattle.lists.proofs.Logic.{cases, decided}
 use Rattle.plan.specs.Plan.{size}
 use Rattle.plan.specs.Check.{check_number, Accepted}
-use Rattle.plan.specs.Output.{Output, output, in_front}
+use Rattle.plan.specs.Made.{Made, made, in_front}
 use Rattle.plan.proofs.Main.{check-exact}
 use Rattle.small_plans.specs.Order.{next_plan}
 use Rattle.small_plans.specs.Call.{given, next_of}
@@ -20,11 +20,11 @@ use Rattle.small_plans.proofs.LastLaws.{last-small, last-only}
 
 -- what a call comes to, by the test that fails first
 module _ (p out : List ℕ) where
-  pub by-plan : (k : ℕ) → k ≡ check_number p → (k ≡ 0 → ⊥) → next_of p out ≡ output k 0 out
+  pub by-plan : (k : ℕ) → k ≡ check_number p → (k ≡ 0 → ⊥) → next_of p out ≡ made k 0 out
   unfolding next_of
   by-plan k e n = rw (← e, ne_eqb k 0 n)
 
-  pub by-nodes : Accepted p → 5 < size p → next_of p out ≡ output 27 0 out
+  pub by-nodes : Accepted p → 5 < size p → next_of p out ≡ made 27 0 out
   unfolding next_of
   by-nodes ok l = rw ((check-exact p).1 ok, lt-leb (size p) 5 l)
 
@@ -32,25 +32,25 @@ module _ (p out : List ℕ) where
   unfolding next_of
   by_next s = rw ((check-exact p).1 s.accepted, le-leb (size p) 5 s.few)
 
-  pub by_last : Small p → next_plan p ≡ none → next_of p out ≡ output 26 0 out
+  pub by_last : Small p → next_plan p ≡ none → next_of p out ≡ made 26 0 out
   unfolding given
   by_last s e = by_next s ∙ rw e refl
 
   module _ (s : Small p) (q : List ℕ) (next : next_plan p ≡ some q) where
-    pub by-lent : (length out ≡ 10 → ⊥) → next_of p out ≡ output 7 0 out
+    pub by-lent : (length out ≡ 10 → ⊥) → next_of p out ≡ made 7 0 out
     unfolding given
     by-lent n = by_next s ∙ rw (next, ne_eqb (length out) 10 n) refl
 
-    pub next-passed : length out ≡ 10 → next_of p out ≡ output 0 (size q) (in_front q out)
+    pub next-passed : length out ≡ 10 → next_of p out ≡ made 0 (size q) (in_front q out)
     unfolding given
     next-passed e = by_next s ∙ rw (next, eq-eqb (length out) 10 e) refl
 
 -- no call answers two numbers
-differs : {a b : Output} → a ≡ b → (a.number ≡ b.number → ⊥) → ⊥
-differs e n = n (ap (λ (x : Output). x.number) e)
+differs : {a b : Made} → a ≡ b → (a.number ≡ b.number → ⊥) → ⊥
+differs e n = n (ap (λ (x : Made). x.number) e)
 
 -- what a call that passed was asked for
-module _ (p out : List ℕ) (n : ℕ) (out' : List ℕ) (h : next_of p out ≡ output 0 n out') where
+module _ (p out : List ℕ) (n : ℕ) (out' : List ℕ) (h : next_of p out ≡ made 0 n out') where
   asked-plan : Accepted p
   asked-plan = cases (decided (eqb (check_number p) 0)) (λ z. (check-exact p).0 (eqb-true (check_number p) 0 z))
       (λ z. let ne = eqb-false (check_number p) 0 z in absurd (differs (sym (by-plan p out _ refl ne) ∙ h) ne))
@@ -71,7 +71,7 @@ module _ (p out : List ℕ) (n : ℕ) (out' : List ℕ) (h : next_of p out ≡ o
       go (some q) e = cases (decided (eqb (length out) 10))
           (λ z. let long = eqb-true (length out) 10 z in
           let is = sym (next-passed p out asked-small q e long) ∙ h in
-          record { small = asked-small; long = long; plan = q; right = ((next-right p).found q).0 e; nodes = sym (ap (λ (x : Output). x.value) is); left = sym (ap (λ (x : Output). x.out) is) })
+          record { small = asked-small; long = long; plan = q; right = ((next-right p).found q).0 e; nodes = sym (ap (λ (x : Made). x.nodes) is); left = sym (ap (λ (x : Made). x.out) is) })
           (λ z. absurd (differs (sym (by-lent p out asked-small q e (eqb-false (length out) 10 z)) ∙ h) (λ z. omega arith)))
 
 pub next-call : NextCall
@@ -82,10 +82,10 @@ next-call p out n out' = (
 )
 
 -- a small plan that is not the last has a next
-not_last : (p out : List ℕ) → Small p → (p ≡ last → ⊥) → (length out ≡ 10 → ⊥) → next_of p out ≡ output 7 0 out
+not_last : (p out : List ℕ) → Small p → (p ≡ last → ⊥) → (length out ≡ 10 → ⊥) → next_of p out ≡ made 7 0 out
 not_last p out s other long = go (next_plan p) refl
   where
-    go : (o : Option (List ℕ)) → next_plan p ≡ o → next_of p out ≡ output 7 0 out
+    go : (o : Option (List ℕ)) → next_plan p ≡ o → next_of p out ≡ made 7 0 out
     go none e = absurd (other ((last-only p s).0 e))
     go (some q) e = by-lent p out s q e long
 

@@ -8,7 +8,7 @@ use Prim.Native.Nat.{ℕ, zero, suc}
 use Rattle.lists.specs.Seq.{keep, up_from, all_below}
 use Rattle.plan.specs.Plan.{kind_of, size, kind_byte, kind, parent, children_below, children, child_count, depth_within, depth}
 use Rattle.plan.specs.Check.{length_ok, kind_ok, parent_ok, under_block, fits, count_ok, depth_ok, at_all, check_number}
-use Rattle.plan.specs.Output.{Output, output, in_front}
+use Rattle.plan.specs.Made.{Made, made, in_front}
 use Rattle.small_plans.specs.Order.{is_less, is_before, next_plan}
 use Rattle.small_plans.specs.Call.{given, next_of}
 
@@ -67,9 +67,9 @@ lent (suc n) = 238 ∷ lent n
 record Given : Type 0 where
   next : Option (List ℕ)
   bytes : ℕ
-  comes : Output
+  comes : Made
 
-given-as : Option (List ℕ) → ℕ → Output → Given
+given-as : Option (List ℕ) → ℕ → Made → Given
 given-as o n a = record { next = o; bytes = n; comes = a }
 
 abbrev five : List ℕ
@@ -77,16 +77,16 @@ five = 8 ∷ 255 ∷ 8 ∷ 0 ∷ 8 ∷ 1 ∷ 8 ∷ 2 ∷ 1 ∷ 3 ∷ []
 
 gifts : List Given
 gifts =
-    given-as none 10 (output 26 0 (lent 10))
-    ∷ given-as none 9 (output 26 0 (lent 9))
-    ∷ given-as (some (one 2)) 9 (output 7 0 (lent 9))
-    ∷ given-as (some (one 2)) 11 (output 7 0 (lent 11))
-    ∷ given-as (some (one 2)) 0 (output 7 0 [])
-    ∷ given-as (some (one 2)) 4 (output 7 0 (lent 4))
-    ∷ given-as (some (one 2)) 10 (output 0 2 (2 ∷ 255 ∷ 1 ∷ 0 ∷ 238 ∷ 238 ∷ 238 ∷ 238 ∷ 238 ∷ 238 ∷ []))
-    ∷ given-as (some (two 7)) 10 (output 0 3 (7 ∷ 255 ∷ 1 ∷ 0 ∷ 1 ∷ 0 ∷ 238 ∷ 238 ∷ 238 ∷ 238 ∷ []))
-    ∷ given-as (some five) 10 (output 0 5 five)
-    ∷ given-as (some five) 12 (output 7 0 (lent 12))
+    given-as none 10 (made 26 0 (lent 10))
+    ∷ given-as none 9 (made 26 0 (lent 9))
+    ∷ given-as (some (one 2)) 9 (made 7 0 (lent 9))
+    ∷ given-as (some (one 2)) 11 (made 7 0 (lent 11))
+    ∷ given-as (some (one 2)) 0 (made 7 0 [])
+    ∷ given-as (some (one 2)) 4 (made 7 0 (lent 4))
+    ∷ given-as (some (one 2)) 10 (made 0 2 (2 ∷ 255 ∷ 1 ∷ 0 ∷ 238 ∷ 238 ∷ 238 ∷ 238 ∷ 238 ∷ 238 ∷ []))
+    ∷ given-as (some (two 7)) 10 (made 0 3 (7 ∷ 255 ∷ 1 ∷ 0 ∷ 1 ∷ 0 ∷ 238 ∷ 238 ∷ 238 ∷ 238 ∷ []))
+    ∷ given-as (some five) 10 (made 0 5 five)
+    ∷ given-as (some five) 12 (made 7 0 (lent 12))
     ∷ []
 
 all-given : map (λ (k : Given). given k.next (lent k.bytes)) gifts ≡ map (λ (k : Given). k.comes) gifts
@@ -126,7 +126,7 @@ refusals =
     ∷ refused (2 ∷ 255 ∷ tasks 32) 27
     ∷ []
 
-all-refused : map (λ (k : Refused). next_of k.plan (lent 9)) refusals ≡ map (λ (k : Refused). output k.number 0 (lent 9)) refusals
+all-refused : map (λ (k : Refused). next_of k.plan (lent 9)) refusals ≡ map (λ (k : Refused). made k.number 0 (lent 9)) refusals
 unfolding refusals refused tasks chain lent next_of check_number length_ok at_all kind_ok parent_ok under_block fits count_ok depth_ok kind_of size kind_byte kind parent children_below children child_count depth_within depth keep up_from all_below
 all-refused = refl
 

@@ -3,7 +3,7 @@ use Rattle.std.specs.Prelude.{◌≡◌, List, [], ◌∷◌, ◌++◌, ◌⊎�
 use Rattle.std.proofs.Math.Option.{none, some}
 use Rattle.plan.specs.Plan.{size}
 use Rattle.plan.specs.Check.{Accepted, check_number}
-use Rattle.plan.specs.Output.{output}
+use Rattle.plan.specs.Made.{made}
 use Rattle.small_plans.specs.Order.{Before, next_plan}
 use Rattle.small_plans.specs.Call.{next_of}
 
@@ -67,14 +67,14 @@ pub record AsNext (p out : List ℕ) (n : ℕ) (out' : List ℕ) : Type 0 where
 
 -- CLAIM (T6, T7). When a call passes, and what it then answers and leaves.
 abbrev pub NextCall : Type 0
-NextCall = (p out : List ℕ) (n : ℕ) (out' : List ℕ) → (next_of p out ≡ output 0 n out') ↔ AsNext p out n out'
+NextCall = (p out : List ℕ) (n : ℕ) (out' : List ℕ) → (next_of p out ≡ made 0 n out') ↔ AsNext p out n out'
 
 -- T6, H0, H28: every number, where none before it fits; the lent bytes are left
 pub record Numbers (p out : List ℕ) : Type 0 where
-  pub by-plan : (check_number p ≡ 0 → ⊥) → next_of p out ≡ output (check_number p) 0 out
-  pub by_last : p ≡ last → next_of p out ≡ output 26 0 out
-  pub by-nodes : Accepted p → 5 < size p → next_of p out ≡ output 27 0 out
-  pub by-lent : Small p → (p ≡ last → ⊥) → (length out ≡ 10 → ⊥) → next_of p out ≡ output 7 0 out
+  pub by-plan : (check_number p ≡ 0 → ⊥) → next_of p out ≡ made (check_number p) 0 out
+  pub by_last : p ≡ last → next_of p out ≡ made 26 0 out
+  pub by-nodes : Accepted p → 5 < size p → next_of p out ≡ made 27 0 out
+  pub by-lent : Small p → (p ≡ last → ⊥) → (length out ≡ 10 → ⊥) → next_of p out ≡ made 7 0 out
 
 -- CLAIM (T6)
 abbrev pub NextNumbers : Type 0

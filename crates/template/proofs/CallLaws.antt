@@ -11,7 +11,7 @@ use borrow.Author.Tests.{eqb-true, eqb-false, eq-eqb, ne_eqb, ltb-true, lt-ltb, 
 use Rattle.lists.proofs.Logic.{cases, no_bool, either, and_left, and_right, and-join, test-passed, number_passed}
 use Rattle.plan.specs.Plan.{size, kind_byte, children, child_count}
 use Rattle.plan.specs.Check.{fit_number, Accepted}
-use Rattle.plan.specs.Output.{Output, output, in_front}
+use Rattle.plan.specs.Made.{Made, made, in_front}
 use Rattle.plan.proofs.Main.{fit-exact}
 use Rattle.trees.specs.Tree.{node_count}
 use Rattle.template.specs.Repeat.{can_repeat, can_mark, repeated_tree, repeated}
@@ -54,11 +54,11 @@ repeat-ready p out k told e = let f = (fit-exact p (eqb (length out) 320)).none.
 
 -- what a call comes to, by the test that fails first
 module _ (p : List ℕ) (m r : ℕ) (out : List ℕ) where
-  repeat-refused : (k : ℕ) → repeat_number p m r out ≡ k → (k ≡ 0 → ⊥) → repeat_of p m r out ≡ output k 0 out
+  repeat-refused : (k : ℕ) → repeat_number p m r out ≡ k → (k ≡ 0 → ⊥) → repeat_of p m r out ≡ made k 0 out
   unfolding repeat_of
   repeat-refused k e n = rw (e, ne_eqb k 0 n)
 
-  pub by-lent : (k : ℕ) → k ≡ fit_number p (eqb (length out) 320) → (k ≡ 0 → ⊥) → repeat_of p m r out ≡ output k 0 out
+  pub by-lent : (k : ℕ) → k ≡ fit_number p (eqb (length out) 320) → (k ≡ 0 → ⊥) → repeat_of p m r out ≡ made k 0 out
   unfolding repeat_number
   by-lent k e n = repeat-refused k (rw (← e, ne_eqb k 0 n)) n
 
@@ -70,25 +70,25 @@ module _ (p : List ℕ) (m r : ℕ) (out : List ℕ) where
     unfolding repeat_number
     number = rw fine
 
-    pub by-node : size p ≤ m → repeat_of p m r out ≡ output 8 0 out
+    pub by-node : size p ≤ m → repeat_of p m r out ≡ made 8 0 out
     unfolding template_number
     by-node l = repeat-refused 8 (number ∙ rw (le-ltb m (size p) l)) (λ e. omega arith)
 
-    pub by-mark : m < size p → can_mark p m ≡ false → repeat_of p m r out ≡ output 23 0 out
+    pub by-mark : m < size p → can_mark p m ≡ false → repeat_of p m r out ≡ made 23 0 out
     unfolding template_number
     by-mark l n = repeat-refused 23 (number ∙ rw (lt-ltb m (size p) l, n)) (λ e. omega arith)
 
   module _ (h : Template p m) (long : length out ≡ 320) where
-    pub by_count : times_ok r ≡ false → repeat_of p m r out ≡ output 24 0 out
+    pub by_count : times_ok r ≡ false → repeat_of p m r out ≡ made 24 0 out
     unfolding template_number
     by_count n = repeat-refused 24 (number h.accepted long ∙ rw (lt-ltb m (size p) h.node, mark-by h, n)) (λ e. omega arith)
 
     module _ (some : 1 ≤ r) (most : r ≤ 32) where
-      pub by-nodes : 160 < node_count (repeated_tree p m r) → repeat_of p m r out ≡ output 25 0 out
+      pub by-nodes : 160 < node_count (repeated_tree p m r) → repeat_of p m r out ≡ made 25 0 out
       unfolding template_number
       by-nodes l = repeat-refused 25 (number h.accepted long ∙ rw (lt-ltb m (size p) h.node, mark-by h, times-by r some most, lt-leb _ 160 l)) (λ e. omega arith)
 
-      pub repeat-passed : node_count (repeated_tree p m r) ≤ 160 → repeat_of p m r out ≡ output 0 (size (repeated p m r)) (in_front (repeated p m r) out)
+      pub repeat-passed : node_count (repeated_tree p m r) ≤ 160 → repeat_of p m r out ≡ made 0 (size (repeated p m r)) (in_front (repeated p m r) out)
       unfolding template_number repeat_of
       repeat-passed l = rw (number h.accepted long, lt-ltb m (size p) h.node, mark-by h, times-by r some most, le-leb (node_count (repeated_tree p m r)) 160 l)
 
@@ -117,14 +117,14 @@ asked p m r out e =
 
 -- a call passes just where its number is 0
 passed-just : (k : ℕ) (out : List ℕ) (n n' : ℕ) (new out' : List ℕ) →
-    cond (not (eqb k 0)) (output k 0 out) (output 0 n new) ≡ output 0 n' out' → (k ≡ 0) × (n ≡ n') × (new ≡ out')
+    cond (not (eqb k 0)) (made k 0 out) (made 0 n new) ≡ made 0 n' out' → (k ≡ 0) × (n ≡ n') × (new ≡ out')
 passed-just k out n n' new out' = go (eqb k 0) refl
   where
-    go : (b : Bool) → eqb k 0 ≡ b → cond (not b) (output k 0 out) (output 0 n new) ≡ output 0 n' out' → (k ≡ 0) × (n ≡ n') × (new ≡ out')
-    go true e h = (eqb-true k 0 e, ap (λ (x : Output). x.value) h, ap (λ (x : Output). x.out) h)
-    go false e h = absurd (eqb-false k 0 e (ap (λ (x : Output). x.number) h))
+    go : (b : Bool) → eqb k 0 ≡ b → cond (not b) (made k 0 out) (made 0 n new) ≡ made 0 n' out' → (k ≡ 0) × (n ≡ n') × (new ≡ out')
+    go true e h = (eqb-true k 0 e, ap (λ (x : Made). x.nodes) h, ap (λ (x : Made). x.out) h)
+    go false e h = absurd (eqb-false k 0 e (ap (λ (x : Made). x.number) h))
 
-pub repeat-call : (p : List ℕ) (m r : ℕ) (out : List ℕ) (n : ℕ) (out' : List ℕ) → (repeat_of p m r out ≡ output 0 n out') ↔ AsRepeated p m r out n out'
+pub repeat-call : (p : List ℕ) (m r : ℕ) (out : List ℕ) (n : ℕ) (out' : List ℕ) → (repeat_of p m r out ≡ made 0 n out') ↔ AsRepeated p m r out n out'
 unfolding repeat_of in_front
 repeat-call p m r out n out' = (
   λ h. let e = passed-just (repeat_number p m r out) out (size (repeated p m r)) n (in_front (repeated p m r) out) out' h in

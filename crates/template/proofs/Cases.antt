@@ -7,7 +7,7 @@ use lib.Dec.{eqb}
 use Rattle.lists.specs.Seq.{keep, up_from, all_below}
 use Rattle.plan.specs.Plan.{kind_of, size, kind_byte, kind, parent, children_below, children, child_count, depth_within, depth}
 use Rattle.plan.specs.Check.{length_ok, kind_ok, parent_ok, under_block, fits, count_ok, depth_ok, at_all, check_number, fit_number}
-use Rattle.plan.specs.Output.{output, in_front}
+use Rattle.plan.specs.Made.{made, in_front}
 use Rattle.trees.specs.Tree.{Forest, none, tree, trees_of, below_within, trees_below, node_count}
 use Rattle.trees.specs.Numbering.{written, above_within, is_above, follows, in_preorder}
 use Rattle.template.specs.Repeat.{can_repeat, can_mark, beside, times, repeated_within, repeated_below, repeated_tree, repeated, moved}
@@ -181,6 +181,6 @@ calls =
     ∷ []
 
 calls-right : map (λ k. repeat_of k.plan k.node k.count (nines k.lent)) calls ≡
-    map (λ k. output k.number k.nodes (cond (eqb k.number 0) (k.new ++ nines (320 - 2 * k.nodes)) (nines k.lent))) calls
+    map (λ k. made k.number k.nodes (cond (eqb k.number 0) (k.new ++ nines (320 - 2 * k.nodes)) (nines k.lent))) calls
 unfolding refused passes nines tasks serials calls repeat_of repeat_number template_number times_ok in_front can_mark can_repeat repeated repeated_tree repeated_below repeated_within times beside written trees_below below_within trees_of node_count fit_number check_number length_ok at_all kind_ok parent_ok under_block fits count_ok depth_ok kind_of size kind_byte kind parent children_below children child_count depth_within depth keep up_from all_below
 calls-right = refl

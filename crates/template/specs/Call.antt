@@ -2,7 +2,7 @@
 use Rattle.std.specs.Prelude.{Bool, cond, not, ◌&&◌, List, ℕ, eqb, ltb, leb, length}
 use Rattle.plan.specs.Plan.{size}
 use Rattle.plan.specs.Check.{fit_number}
-use Rattle.plan.specs.Output.{Output, output, in_front}
+use Rattle.plan.specs.Made.{Made, made, in_front}
 use Rattle.trees.specs.Tree.{node_count}
 use Rattle.template.specs.Repeat.{can_mark, repeated_tree, repeated}
 
@@ -23,7 +23,7 @@ unfoldable pub repeat_number : List ℕ → ℕ → ℕ → List ℕ → ℕ
 repeat_number p m r out = cond (not (eqb (fit_number p (eqb (length out) 320)) 0)) (fit_number p (eqb (length out) 320)) (template_number p m r)
 
 -- S6, S8: a refused call leaves the lent bytes; any other leaves the repeated plan in front
-unfoldable pub repeat_of : List ℕ → ℕ → ℕ → List ℕ → Output
+unfoldable pub repeat_of : List ℕ → ℕ → ℕ → List ℕ → Made
 repeat_of p m r out =
-    cond (not (eqb (repeat_number p m r out) 0)) (output (repeat_number p m r out) 0 out)
-    (output 0 (size (repeated p m r)) (in_front (repeated p m r) out))
+    cond (not (eqb (repeat_number p m r out) 0)) (made (repeat_number p m r out) 0 out)
+    (made 0 (size (repeated p m r)) (in_front (repeated p m r) out))

@@ -3,7 +3,7 @@ use Rattle.std.specs.Prelude.{◌≡◌, true, cond, List, ◌++◌, ◌⊎◌, 
 use Rattle.plan.specs.Plan.{size, kind_byte, parent, children}
 use Rattle.plan.specs.Check.{Accepted, check_number, fit_number}
 use Rattle.plan.specs.Under.{Under}
-use Rattle.plan.specs.Output.{output}
+use Rattle.plan.specs.Made.{made}
 use Rattle.trees.specs.Tree.{trees_of, trees_below, tree_of, node_count}
 use Rattle.trees.specs.Numbering.{renumbered, in_preorder}
 use Rattle.template.specs.Repeat.{times, repeated_below, repeated_tree, repeated, moved}
@@ -78,15 +78,15 @@ pub record AsRepeated (p : List ℕ) (m r : ℕ) (out : List ℕ) (n : ℕ) (out
 
 -- CLAIM (S6, S8). When a call passes, and what it then answers and leaves.
 abbrev pub RepeatCall : Type 0
-RepeatCall = (p : List ℕ) (m r : ℕ) (out : List ℕ) (n : ℕ) (out' : List ℕ) → (repeat_of p m r out ≡ output 0 n out') ↔ AsRepeated p m r out n out'
+RepeatCall = (p : List ℕ) (m r : ℕ) (out : List ℕ) (n : ℕ) (out' : List ℕ) → (repeat_of p m r out ≡ made 0 n out') ↔ AsRepeated p m r out n out'
 
 -- S6, H0, H27: every number, where none before it fits; the lent bytes are left
 pub record Numbers (p : List ℕ) (m r : ℕ) (out : List ℕ) : Type 0 where
-  pub by-lent : (fit_number p (eqb (length out) 320) ≡ 0 → ⊥) → repeat_of p m r out ≡ output (fit_number p (eqb (length out) 320)) 0 out
-  pub by-node : Accepted p → length out ≡ 320 → size p ≤ m → repeat_of p m r out ≡ output 8 0 out
-  pub by-mark : Accepted p → length out ≡ 320 → m < size p → (Template p m → ⊥) → repeat_of p m r out ≡ output 23 0 out
-  pub by_count : Template p m → length out ≡ 320 → (r ≡ 0) ⊎ (32 < r) → repeat_of p m r out ≡ output 24 0 out
-  pub by-nodes : Template p m → length out ≡ 320 → 1 ≤ r → r ≤ 32 → 160 < node_count (repeated_tree p m r) → repeat_of p m r out ≡ output 25 0 out
+  pub by-lent : (fit_number p (eqb (length out) 320) ≡ 0 → ⊥) → repeat_of p m r out ≡ made (fit_number p (eqb (length out) 320)) 0 out
+  pub by-node : Accepted p → length out ≡ 320 → size p ≤ m → repeat_of p m r out ≡ made 8 0 out
+  pub by-mark : Accepted p → length out ≡ 320 → m < size p → (Template p m → ⊥) → repeat_of p m r out ≡ made 23 0 out
+  pub by_count : Template p m → length out ≡ 320 → (r ≡ 0) ⊎ (32 < r) → repeat_of p m r out ≡ made 24 0 out
+  pub by-nodes : Template p m → length out ≡ 320 → 1 ≤ r → r ≤ 32 → 160 < node_count (repeated_tree p m r) → repeat_of p m r out ≡ made 25 0 out
 
 -- CLAIM (S6)
 abbrev pub RepeatNumbers : Type 0

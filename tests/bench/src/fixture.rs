@@ -12,9 +12,6 @@ use differential::{Implementation, Reference};
 /// The longest text that is read.
 const LONGEST_TEXT: usize = 32_768;
 
-/// The most children that a block may have.
-pub const MOST_CHILDREN: usize = 32;
-
 /// The kinds of the small blocks, in turn.
 const KINDS: [u8; 6] = [XOR, SERIAL, CONDITIONAL, AND, OR, CONTINGENCY];
 
@@ -67,10 +64,6 @@ pub struct Fixture {
     pub ways: Vec<Wanted>,
     /// Targets that have no way, one at each node.
     pub no_ways: Vec<Wanted>,
-    /// A row in which everything has happened that can be named.
-    pub everything: Vec<u8>,
-    /// A plan of as many nodes, in which the root is an xor of as many children as may be.
-    pub wide: Vec<u8>,
     /// A text as long as may be: a job of the plan, then each of the steps
     /// again and again. A plan with desks has none.
     pub text: Vec<u8>,
@@ -107,8 +100,6 @@ impl Fixture {
         let (passed, tasks) = changeable(&form.plain(&plan), &answers);
         let (ways, no_ways) = targets(&form.plain(&plan), nodes);
         let (mixed, depths) = forms(&form.plain(&plan));
-        let mut everything = vec![0; nodes];
-        tree.events().into_iter().for_each(|(code, node)| everything[node as usize] |= bit(code));
         Fixture {
             form,
             mixed,
@@ -125,8 +116,6 @@ impl Fixture {
             tasks,
             ways,
             no_ways,
-            everything,
-            wide: wide(nodes),
             text,
             plan,
         }
@@ -210,18 +199,6 @@ fn placed_steps((code, node, own): (u32, u32, usize), seats: &Seats, nodes: usiz
         PlacedStep { step: Step { code, node, site: HAPPENS }, place: at(own) },
         PlacedStep { step: Step { code, node, site: seats.numbers()[hearer] }, place: at(hearer) },
     ]
-}
-
-/// An xor of up to 32 children; the first of them are xors too, with the other nodes below them.
-fn wide(nodes: usize) -> Vec<u8> {
-    let below = (nodes - 1).saturating_sub(MOST_CHILDREN);
-    let children = (nodes - 1).min(MOST_CHILDREN);
-    let blocks = below.div_ceil(MOST_CHILDREN);
-    let mut plan = vec![XOR, 0xff];
-    (0..children).for_each(|child| plan.extend([if child < blocks { XOR } else { TASK }, 0]));
-    (0..below).for_each(|task| plan.extend([TASK, 1 + (task / MOST_CHILDREN) as u8]));
-    assert_eq!((plan.len() / 2, Reference.check(&plan)), (nodes, 0));
-    plan
 }
 
 /// The marks of the pass, and the tasks that it comes to and of which each alone

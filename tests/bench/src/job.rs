@@ -51,17 +51,6 @@ impl Script {
         self.steps.extend(apply.iter().map(|&(code, node)| Step { code, node: node as u32, site: HAPPENS }));
     }
 
-    /// The job's plan.
-    pub fn plan(&self) -> &[u8] {
-        &self.plan
-    }
-
-    /// The events of the job, without the last tries.
-    pub fn events(&self) -> impl Iterator<Item = (u32, u32)> {
-        let job = &self.steps[..self.steps.len() - self.tries];
-        job.iter().filter(|step| step.site == HAPPENS).map(|step| (step.code, step.node))
-    }
-
     /// How many nodes the plan has.
     pub fn nodes(&self) -> usize {
         self.plan.len() / 2

@@ -1,12 +1,10 @@
 //! Measures each exported function of the C archive against the reference,
-//! a step at a desk against one at a site, a whole job and a test load by simulate, and the
-//! job by hosts that tell audiences alone: same inputs, in turn, medians of many rounds.
-//! Small plans are all handed in, and the one whose next takes longest apart. At the end
-//! the slowest ways of large plans.
+//! a step at a desk against one at a site, a whole job and a test load by simulate: same
+//! inputs, in turn, medians of many rounds. Small plans are all handed in, and the one
+//! whose next takes longest apart. At the end the slowest ways of large plans.
 
 mod fixture;
 mod job;
-mod line;
 mod load;
 mod measure;
 mod slowest;
@@ -45,9 +43,8 @@ struct Options {
     /// How often each side is measured.
     rounds: usize,
     /// Only this function; "next_plan" is the walk over all small plans, "run_load" a
-    /// test load that is run, "job" the whole job, "line" the same by hosts, "typing" what an
-    /// editor waits for, "desks" a step at a desk beside one at a site, "slowest" the slowest
-    /// ways.
+    /// test load that is run, "job" the whole job, "typing" what an editor waits for,
+    /// "desks" a step at a desk beside one at a site, "slowest" the slowest ways.
     only: Option<String>,
 }
 
@@ -114,9 +111,6 @@ fn compare(name: &str, subject: &mut impl Implementation, options: &Options) -> 
     }
     if options.wants("job") {
         compare_job(name, subject, options.rounds.div_ceil(10))?;
-    }
-    if options.wants("line") {
-        compare_line(name, subject, options.rounds)?;
     }
     if options.wants("slowest") {
         print_slowest(name, subject);
@@ -206,29 +200,6 @@ fn compare_job(name: &str, subject: &mut impl Implementation, rounds: usize) -> 
         "whole job of {} nodes, {} steps: {name} {:.3} ms, reference {:.3} ms, ratio {:.2}",
         script.nodes(),
         script.steps(),
-        medians.theirs / 1e6,
-        medians.ours / 1e6,
-        medians.ratio()
-    );
-    Ok(())
-}
-
-/// The same job by hosts: a step and the audience for each event, and a message to each site of it.
-fn compare_line(name: &str, subject: &mut impl Implementation, rounds: usize) -> Result<(), String> {
-    let script = Script::new();
-    let (mut theirs, mut ours) = (line::Hosts::new(&script), line::Hosts::new(&script));
-    let done = ours.run(&mut Reference);
-    if theirs.run(subject) != done {
-        return Err("the job by hosts does not end alike; run the differential test".to_string());
-    }
-    let medians = in_turn(rounds, 1, || theirs.run(subject).sum, || ours.run(&mut Reference).sum);
-    let (nodes, calls) = (script.nodes(), f64::from(2 * done.events + done.messages));
-    let each = Medians { theirs: medians.theirs / calls, ours: medians.ours / calls };
-    print_line("line call", nodes, &each);
-    println!(
-        "the same job by hosts, {} events, {} messages: {name} {:.3} ms, reference {:.3} ms, ratio {:.2}",
-        done.events,
-        done.messages,
         medians.theirs / 1e6,
         medians.ours / 1e6,
         medians.ratio()

@@ -1,10 +1,9 @@
 //! A round of calls of one function. Every call begins with the same bytes:
 //! what a call changed is put back at once. Nothing allocates.
 
-use crate::fixture::{Fixture, MOST_CHILDREN, PlacedStep, Template};
+use crate::fixture::{Fixture, PlacedStep, Template};
 use crate::load::{SEED, STEPS};
 use differential::Implementation;
-use differential::codes::PICK;
 use differential::driver::Step;
 use differential::implementation::{Change, Entry, Slots, Wanted};
 use differential::loads::STEP_BYTES;
@@ -14,7 +13,7 @@ use differential::texts::OUT_BYTES;
 use std::hint::black_box;
 
 /// The measured functions.
-pub const NAMES: [&str; 41] = [
+pub const NAMES: [&str; 37] = [
     "check",
     "depths",
     "rewrite",
@@ -26,10 +25,6 @@ pub const NAMES: [&str; 41] = [
     "rule",
     "step",
     "hear",
-    "audience",
-    "audience_most",
-    "merge",
-    "merge_all",
     "pass",
     "impact",
     "way",
@@ -157,9 +152,7 @@ impl Work {
         match self.function {
             "check" | "depths" | "rewrite" | "renumber" | "to_depths" | "from_depths" => CALLS,
             "repeat" | "pass" | "record" | "record_by" => CALLS,
-            "check_table" | "pass_record" | "point_name" | "point_full" | "merge_all" => CALLS,
-            "audience_most" => self.picks().len(),
-            "merge" => self.fixture.nodes,
+            "check_table" | "pass_record" | "point_name" | "point_full" => CALLS,
             "rehearse" | "workload" => 1,
             "impact" => 2 * self.fixture.tasks.len(),
             "way" => self.fixture.ways.len(),
@@ -230,21 +223,6 @@ impl Work {
             "rule" => self.rules(subject),
             "step" => self.steps(subject),
             "hear" => self.hears(subject),
-            "audience" => self.audiences(subject),
-            "audience_most" => {
-                let picks = self.picks();
-                let (plan, out) = (black_box(&self.fixture.wide), &mut self.buffer[..MOST_CHILDREN]);
-                picks.fold(0, |sum, node| {
-                    let result = subject.audience(plan, PICK, node, out);
-                    mix(sum, result + u32::from(out[0]))
-                })
-            }
-            "merge" => self.merges(subject),
-            "merge_all" => self.repeat(|work| {
-                let Fixture { plan, everything, .. } = &mut work.fixture;
-                work.out.fill(0);
-                subject.merge(black_box(plan), &mut work.out, everything) + u32::from(work.out[0])
-            }),
             "simulate" => self.simulations(subject),
             "keep" => self.keeps(subject),
             "undo" => self.undos(subject),
@@ -329,32 +307,6 @@ impl Work {
 
     fn hears(&mut self, subject: &mut impl Implementation) -> u32 {
         self.on_rows(|plan, code, node, row| subject.hear(plan, code, node, row))
-    }
-
-    /// The children of the wide plan's root.
-    fn picks(&self) -> std::ops::Range<u32> {
-        1..self.fixture.nodes.min(MOST_CHILDREN + 1) as u32
-    }
-
-    fn audiences(&mut self, subject: &mut impl Implementation) -> u32 {
-        let plan = black_box(&self.fixture.plan);
-        let out = &mut self.buffer[..MOST_CHILDREN];
-        self.fixture.events.iter().fold(0, |sum, &(code, node, _)| {
-            let result = subject.audience(plan, code, node, out);
-            mix(sum, result + u32::from(out[0]))
-        })
-    }
-
-    /// The row of each site into a copy of that of the site before.
-    fn merges(&mut self, subject: &mut impl Implementation) -> u32 {
-        let Fixture { plan, nodes, state, .. } = &mut self.fixture;
-        let nodes = *nodes;
-        (0..nodes).fold(0, |sum, row| {
-            self.out.copy_from_slice(&state[row * nodes..][..nodes]);
-            let other = &mut state[(row + 1) % nodes * nodes..][..nodes];
-            let result = subject.merge(black_box(plan), &mut self.out, other);
-            mix(sum, result + u32::from(self.out[0]))
-        })
     }
 
     /// Each event by its row.

@@ -60,14 +60,6 @@ impl Implementation for Archive {
         vulcedar::hear(plan, code, node, row)
     }
 
-    fn audience(&mut self, plan: &[u8], code: u32, node: u32, out: &mut [u8]) -> u32 {
-        vulcedar::audience(plan, code, node, out)
-    }
-
-    fn merge(&mut self, plan: &[u8], row: &mut [u8], other: &mut [u8]) -> u32 {
-        vulcedar::merge(plan, row, other)
-    }
-
     fn pass(&mut self, plan: &[u8], answers: &[u8], marks: &mut [u8]) -> u32 {
         vulcedar::pass(plan, answers, marks)
     }

@@ -317,13 +317,6 @@ impl Tree {
         }
     }
 
-    /// All events that apply, as code and node.
-    pub fn events(&self) -> Vec<(u32, u32)> {
-        let all = (1..=8).flat_map(|code| (0..self.kinds.len()).map(move |node| (code, node)));
-        let apply = all.filter(|&(code, node)| self.applies(code, node));
-        apply.map(|(code, node)| (code, node as u32)).collect()
-    }
-
     /// Whether a site may wait for what happens to a node: its own, its
     /// parent's, its siblings' and its children's.
     pub fn is_near(&self, node: usize, site: usize) -> bool {

@@ -49,11 +49,6 @@ pub fn run<S: Implementation, R: Implementation>(trial: &mut Trial<S, R>, random
     }
 }
 
-/// A host says whether a message was new to it; a simulation doesn't.
-fn without_value(result: u32) -> u32 {
-    result & 0xffff
-}
-
 /// So many zeros, for both sides.
 fn fresh(length: usize) -> Pair {
     let mut pair = Pair::default();
@@ -94,8 +89,7 @@ impl Hosts<'_> {
         let by_hosts = match row.and_then(|row| self.rows.get_mut(row)) {
             Some(row) if site == HAPPENS => Some(trial.step_on(self.plan, code, node, row)),
             Some(row) if self.happened.contains(&(code, node)) => {
-                let (result, same) = trial.hear_on(&self.plain, code, node, row);
-                Some((without_value(result), same))
+                Some(trial.hear_on(&self.plain, code, node, row))
             }
             _ => None,
         };

@@ -62,11 +62,6 @@ pub trait Implementation {
     fn step(&mut self, plan: &[u8], code: u32, node: u32, row: &mut [u8]) -> u32;
     /// A message into a site's row.
     fn hear(&mut self, plan: &[u8], code: u32, node: u32, row: &mut [u8]) -> u32;
-    /// Writes who has to be told of an event.
-    fn audience(&mut self, plan: &[u8], code: u32, node: u32, out: &mut [u8]) -> u32;
-    /// Merges another row into a site's row. The other stays; it could be written, so
-    /// that it can be seen that it is not.
-    fn merge(&mut self, plan: &[u8], row: &mut [u8], other: &mut [u8]) -> u32;
     /// The single pass.
     fn pass(&mut self, plan: &[u8], answers: &[u8], marks: &mut [u8]) -> u32;
     /// The single pass with one answer changed. The answers stay; they could be
@@ -243,14 +238,6 @@ impl Implementation for Reference {
 
     fn hear(&mut self, plan: &[u8], code: u32, node: u32, row: &mut [u8]) -> u32 {
         exported::hear(plan, code, node, row)
-    }
-
-    fn audience(&mut self, plan: &[u8], code: u32, node: u32, out: &mut [u8]) -> u32 {
-        exported::audience(plan, code, node, out)
-    }
-
-    fn merge(&mut self, plan: &[u8], row: &mut [u8], other: &mut [u8]) -> u32 {
-        exported::merge(plan, row, other)
     }
 
     fn pass(&mut self, plan: &[u8], answers: &[u8], marks: &mut [u8]) -> u32 {

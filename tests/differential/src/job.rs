@@ -265,8 +265,32 @@ impl<'a, S: Implementation, R: Implementation> Job<'a, S, R> {
         (number(result) == 0).then(|| (marks.to_vec(), classes.to_vec()))
     }
 
+    /// Answers that agree with the job's events; anything where those say
+    /// nothing.
     fn agreeing_answers(&mut self) -> Vec<u8> {
-        agreeing_answers(self.random, &self.tree, &self.marks, self.driver.passed())
+        let mut answers = self.random.bytes(self.nodes);
+        for (node, answer) in answers.iter_mut().enumerate() {
+            if self.tree.kind(node) == XOR && self.marks[node] != 0 {
+                *answer = 0;
+            }
+        }
+        for &(code, node) in self.driver.passed() {
+            let node = node as usize;
+            let is_task = self.tree.kind(node) == TASK;
+            match code {
+                OFFER | COMMIT if is_task => answers[node] = 1,
+                ABORT if is_task => answers[node] = 2,
+                YES => answers[node] = 1,
+                NO => answers[node] = 2,
+                PICK => {
+                    let xor = self.tree.site(PICK, node);
+                    let place = self.tree.children[xor].iter().position(|&child| child == node);
+                    answers[xor] = place.map_or(0, |place| place as u8 + 1);
+                }
+                _ => {}
+            }
+        }
+        answers
     }
 
     /// A byte that no longer agrees: whatever comes of it, both sides must
@@ -278,37 +302,4 @@ impl<'a, S: Implementation, R: Implementation> Job<'a, S, R> {
         let before = self.random.bytes(self.nodes);
         self.trial.pass(&self.plain, &answers, &before);
     }
-}
-
-/// Answers that agree with the events of a job, which left these marks; anything where
-/// those say nothing.
-pub(crate) fn agreeing_answers(
-    random: &mut Random,
-    tree: &Tree,
-    marks: &[u8],
-    passed: &[(u32, u32)],
-) -> Vec<u8> {
-    let mut answers = random.bytes(marks.len());
-    for (node, answer) in answers.iter_mut().enumerate() {
-        if tree.kind(node) == XOR && marks[node] != 0 {
-            *answer = 0;
-        }
-    }
-    for &(code, node) in passed {
-        let node = node as usize;
-        let is_task = tree.kind(node) == TASK;
-        match code {
-            OFFER | COMMIT if is_task => answers[node] = 1,
-            ABORT if is_task => answers[node] = 2,
-            YES => answers[node] = 1,
-            NO => answers[node] = 2,
-            PICK => {
-                let xor = tree.site(PICK, node);
-                let place = tree.children[xor].iter().position(|&child| child == node);
-                answers[xor] = place.map_or(0, |place| place as u8 + 1);
-            }
-            _ => {}
-        }
-    }
-    answers
 }

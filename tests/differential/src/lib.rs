@@ -7,21 +7,18 @@
 //!   simulation steps and simulation texts.
 //! * [`trial`] makes one call on both sides and compares all that can be seen.
 //! * [`cases`] has cases with known answers; [`calls`] tries single calls,
-//!   [`job`] whole simulations, [`hosts`] the same with rows apart, [`line`] hosts that
-//!   know no more than they have to,
+//!   [`job`] whole simulations, [`hosts`] the same with rows apart,
 //!   [`journals`] lists of steps that are kept and taken back, also with named
 //!   points, [`texts`] simulations from text, by the call and by the program;
 //!   [`run`] puts them in turn.
 //! * [`form`] has the two forms of plans, plain and with desks, in which most of
 //!   these are run; [`slots`] has what the rules say of points, and names for
-//!   them, [`loads`] what they say of test loads, and [`audiences`] whom they say is
-//!   to be told of an event.
+//!   them, and [`loads`] what they say of test loads.
 //! * [`broken`] has copies of the reference with one mistake each, to show
 //!   that the comparison can fail.
 
 #[cfg(feature = "archive")]
 pub mod archive;
-pub mod audiences;
 pub mod broken;
 pub mod calls;
 pub mod cases;
@@ -33,7 +30,6 @@ pub mod implementation;
 pub mod job;
 pub mod journals;
 pub mod lent;
-pub mod line;
 pub mod loads;
 pub mod plans;
 pub mod program;

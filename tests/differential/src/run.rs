@@ -2,7 +2,6 @@
 //! that one part can be repeated alone.
 
 use crate::implementation::{Implementation, Reference};
-use crate::line::{self, Manner};
 use crate::plans;
 use crate::random::Random;
 use crate::tally::Tally;
@@ -30,10 +29,6 @@ pub const SMALL_FORMS_PART: u64 = ONLY_CHILD_PART + 4;
 pub const SMALL_TEMPLATES_PART: u64 = ONLY_CHILD_PART + 5;
 /// The part with all small plans, one after another.
 pub const WALK_PART: u64 = ONLY_CHILD_PART + 6;
-/// The part with the audience of every event of every small plan.
-pub const SMALL_AUDIENCES_PART: u64 = ONLY_CHILD_PART + 7;
-/// The place of the parts about the line between sites, behind a simulation.
-pub const LINE_PART: u64 = 13;
 /// The place of the parts with test loads, behind a simulation.
 pub const LOADS_PART: u64 = 14;
 /// The place of the parts in which small plans come one after another, behind a
@@ -63,13 +58,13 @@ pub const OWN_DESKS_PART: u64 = 35;
 pub const ONE_DESK_PART: u64 = 36;
 /// The place of the parts with simulations of plans with desks.
 pub const DESK_JOBS_PART: u64 = 37;
-/// The place of the parts with hosts, with lists of moves and with jobs on a line, for
-/// plans with desks.
+/// The place of the parts with hosts and with lists of moves, for plans with
+/// desks.
 pub const DESK_MOVES_PART: u64 = 38;
 /// The place of the parts with points, for plans with desks.
 pub const DESK_POINTS_PART: u64 = 39;
 /// The parts that are the same with every seed.
-const FIXED_PARTS: [u64; 8] = [
+const FIXED_PARTS: [u64; 7] = [
     ONLY_CHILD_PART,
     CASES_PART,
     SMALL_PLANS_PART,
@@ -77,7 +72,6 @@ const FIXED_PARTS: [u64; 8] = [
     SMALL_FORMS_PART,
     SMALL_TEMPLATES_PART,
     WALK_PART,
-    SMALL_AUDIENCES_PART,
 ];
 /// Where the parts with texts begin to be numbered.
 const FIRST_TEXT_PART: u64 = 1 << 40;
@@ -87,8 +81,8 @@ const FIRST_TEXT_PART: u64 = 1 << 40;
 pub struct Options {
     /// All random numbers come from this.
     pub seed: u64,
-    /// At least so many calls of simulate and step, those with desks, of test loads and
-    /// of jobs on a line not counted.
+    /// At least so many calls of simulate and step, those with desks and those of
+    /// test loads not counted.
     pub steps: u64,
     /// At least so many texts.
     pub texts: u64,
@@ -162,9 +156,6 @@ fn run_part<S: Implementation, R: Implementation>(trial: &mut Trial<S, R>, seed:
     if part == WALK_PART {
         return calls::whole_walk(trial);
     }
-    if part == SMALL_AUDIENCES_PART {
-        return calls::every_audience(trial);
-    }
     let plan = if part % (4 * TURN) == 47 { large_plan(random) } else { any_plan(random) };
     let place = part % TURN;
     if place >= DESKS_PART {
@@ -192,10 +183,6 @@ fn run_part<S: Implementation, R: Implementation>(trial: &mut Trial<S, R>, seed:
         WAYS_PART => calls::ways(trial, random, &plan),
         7 => job::simulate(trial, random, &plan),
         8 | 9 => jobs(trial, random, 20, 60, 1),
-        LINE_PART => {
-            jobs(trial, random, 8, 20, 1);
-            calls::lines(trial, random, &plan);
-        }
         LOADS_PART => {
             jobs(trial, random, 8, 20, 1);
             calls::workloads(trial, random, &plan);
@@ -204,7 +191,7 @@ fn run_part<S: Implementation, R: Implementation>(trial: &mut Trial<S, R>, seed:
             jobs(trial, random, 8, 20, 1);
             calls::next_plans(trial, random, &plan);
         }
-        10..=12 => jobs(trial, random, 8, 20, 1),
+        10..=13 => jobs(trial, random, 8, 20, 1),
         TEMPLATES_PART.. => {
             jobs(trial, random, 1, 8, 6);
             calls::repeats(trial, random, &plan);
@@ -255,10 +242,6 @@ fn run_desks<S: Implementation, R: Implementation>(
                 let plan = moving_plan(random, 2, most);
                 hosts::run(trial, random, &plan);
                 journals::run(trial, random, &plan, moves);
-            }
-            for manner in Manner::ALL {
-                let plan = moving_plan(random, 2, 10);
-                line::run(trial, random, &plan, manner);
             }
         }
         _ => {

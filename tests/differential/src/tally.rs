@@ -32,10 +32,6 @@ pub enum Function {
     Step,
     /// `vulcedar_hear`
     Hear,
-    /// `vulcedar_audience`
-    Audience,
-    /// `vulcedar_merge`
-    Merge,
     /// `vulcedar_pass`
     Pass,
     /// `vulcedar_impact`
@@ -94,7 +90,7 @@ pub enum Function {
 }
 
 /// How many functions there are.
-const FUNCTIONS: usize = 41;
+const FUNCTIONS: usize = 39;
 /// One more than the highest number; 0 is passed.
 const NUMBERS: usize = 31;
 
@@ -113,8 +109,6 @@ impl Function {
         Function::Rule,
         Function::Step,
         Function::Hear,
-        Function::Audience,
-        Function::Merge,
         Function::Pass,
         Function::Impact,
         Function::Way,
@@ -159,8 +153,6 @@ impl Function {
             Function::Rule => "rule",
             Function::Step => "step",
             Function::Hear => "hear",
-            Function::Audience => "audience",
-            Function::Merge => "merge",
             Function::Pass => "pass",
             Function::Impact => "impact",
             Function::Way => "way",
@@ -197,8 +189,6 @@ impl Function {
         match self {
             Function::Check => &[0, 1, 2, 3, 4, 5, 6],
             Function::Guard | Function::Hear | Function::Central => &[0, 1, 2, 3, 4, 5, 6, 7, 8, 9],
-            Function::Audience => &[0, 1, 2, 3, 4, 5, 6, 7, 8, 9],
-            Function::Merge => &[0, 1, 2, 3, 4, 5, 6, 7, 9],
             Function::Rule => &[0, 1, 2, 3, 4, 5, 6, 8, 9],
             Function::Step => &[0, 1, 2, 3, 4, 5, 6, 7, 8, 9, 10, 11],
             Function::Pass => &[0, 1, 2, 3, 4, 5, 6, 7, 13, 14],
@@ -326,29 +316,6 @@ pub struct Jobs {
     pub load_steps: u64,
     /// Of these, passed.
     pub load_passed: u64,
-    /// Audiences that were written.
-    pub audiences: u64,
-    /// Calls of simulate and step in jobs on a line.
-    pub line_steps: u64,
-    /// Events that passed in such jobs.
-    pub line_events: u64,
-    /// Messages to their audiences.
-    pub line_messages: u64,
-    /// Rows that were merged there.
-    pub line_merged: u64,
-    /// Of these, with something new.
-    pub line_news: u64,
-    /// Restarts of hosts.
-    pub restarts: u64,
-    /// Of these, from a row that had less than the host's own.
-    pub forgetful: u64,
-    /// Events that were held against the central rule at a host that has heard all that
-    /// it has to.
-    pub line_held: u64,
-    /// Of these, where some other host had not.
-    pub line_held_early: u64,
-    /// Jobs on a line that were settled.
-    pub settled: u64,
 }
 
 /// A count for each rule byte.
@@ -433,15 +400,10 @@ impl Tally {
         &self.described
     }
 
-    /// Calls of simulate and step so far, but for those of test loads and of jobs on a line,
-    /// which come beside the others.
+    /// Calls of simulate and step so far, but for the steps of test loads, which come beside
+    /// the others.
     pub fn steps(&self) -> u64 {
-        self.all_steps() - self.jobs.load_steps - self.jobs.line_steps
-    }
-
-    /// All calls of simulate and step so far.
-    pub fn all_steps(&self) -> u64 {
-        self.calls(Function::Simulate) + self.calls(Function::Step)
+        self.calls(Function::Simulate) + self.calls(Function::Step) - self.jobs.load_steps
     }
 
     /// The same with desks.
@@ -552,24 +514,6 @@ impl fmt::Display for Tally {
             out,
             "test loads: {} written, {} counts that wrap in 32 bits; {} steps run, {} of these passed",
             jobs.loads, jobs.wrapping_counts, jobs.load_steps, jobs.load_passed
-        )?;
-        writeln!(
-            out,
-            "line: {} audiences; {} events, {} messages, {} rows merged ({} with news), {} restarts ({} forgetful); \
-             {} jobs settled",
-            jobs.audiences,
-            jobs.line_events,
-            jobs.line_messages,
-            jobs.line_merged,
-            jobs.line_news,
-            jobs.restarts,
-            jobs.forgetful,
-            jobs.settled
-        )?;
-        writeln!(
-            out,
-            "      {} events held against the central rule where enough is known, {} where others know less",
-            jobs.line_held, jobs.line_held_early
         )?;
         writeln!(out, "rules of passed events: {} different", self.rules())?;
         writeln!(out, "texts: {}", self.texts)?;

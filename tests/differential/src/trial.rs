@@ -2,7 +2,6 @@
 //! canaries around them, and what the rules say about bytes that stay: a
 //! refused call leaves all, a passed step sets one bit.
 
-use crate::audiences::Named;
 use crate::codes::{AND, HAPPENS, TASK, WAITING_AND, bit, number, site, value};
 use crate::driver::{Step, Tree};
 use crate::form::{Form, HIGHEST_DESK};
@@ -13,7 +12,6 @@ use crate::tally::{Function, Tally};
 
 mod forms;
 mod impact;
-mod line;
 mod load;
 mod points;
 mod repeat;
@@ -42,8 +40,6 @@ pub struct Trial<S, R> {
     points: Points,
     /// What the subject's simulation leaves where a step is kept.
     beside: Vec<u8>,
-    /// Who names which event, by the subject's guards of a plan.
-    named: Named,
 }
 
 /// A call's numbers, for describing it.
@@ -70,7 +66,6 @@ impl<S: Implementation, R: Implementation> Trial<S, R> {
             journal: Journal::default(),
             points: Points::default(),
             beside: vec![],
-            named: Named::default(),
         }
     }
 
@@ -239,8 +234,7 @@ impl<S: Implementation, R: Implementation> Trial<S, R> {
         self.plan.load(plan);
         let theirs = self.subject.hear(self.plan.bytes(), code, node, row.subject.bytes_mut());
         let ours = self.reference.hear(plan, code, node, &mut row.reference);
-        let says_new = theirs == says_new(row.before(), code, node, number(theirs));
-        let same = is_bit_set(row, ours, code, Some(node as usize)) && says_new;
+        let same = is_bit_set(row, ours, code, Some(node as usize));
         let call = Call { function: Function::Hear, plan, numbers: &[code, node], lent: &[row.before()] };
         let fine = self.judge(call, ours, theirs, same);
         keep_bit(row, ours, Some(node as usize));
@@ -649,14 +643,6 @@ fn is_bit_set(pair: &mut Pair, result: u32, code: u32, place: Option<usize>) -> 
         _ if number(result) != 0 => pair.is_untouched(),
         Some(place) if place < pair.length() => pair.has_only_set(place, bit(code)),
         _ => false,
-    }
-}
-
-/// What a message must answer that has this number: whether the event was new to the row.
-fn says_new(before: &[u8], code: u32, node: u32, number: u8) -> u32 {
-    match before.get(node as usize) {
-        Some(byte) if number == 0 => u32::from(byte & bit(code) == 0) << 16,
-        _ => number.into(),
     }
 }
 

@@ -8,7 +8,6 @@ use differential::run::{DESK_JOBS_PART, DESK_MOVES_PART, DESK_POINTS_PART, ONE_D
 use differential::run::{
     FORMS_PART, IMPACT_PART, SMALL_FORMS_PART, SMALL_PLANS_PART, TARGETS_PART, WAYS_PART,
 };
-use differential::run::{LINE_PART, SMALL_AUDIENCES_PART};
 use differential::run::{LOADS_PART, NEXT_PLANS_PART, SMALL_TEMPLATES_PART, TEMPLATES_PART, WALK_PART};
 use differential::run::{Options, run, run_against};
 use differential::tally::Tally;
@@ -56,28 +55,15 @@ fn of_small_plans() -> impl Iterator<Item = Mistake> {
     before_loads.skip_while(|&mistake| mistake != Mistake::BytesAlone)
 }
 
-/// The mistakes of test loads.
+/// The mistakes of test loads; they stand at the end.
 fn of_loads() -> impl Iterator<Item = Mistake> {
-    let before_line = Mistake::ALL.into_iter().take_while(|&mistake| mistake != Mistake::PickedNotTold);
-    before_line.skip_while(|&mistake| mistake != Mistake::FactorOneLess)
-}
-
-/// The mistakes of the line between sites: of audiences, and behind them of merged rows and
-/// of messages. They stand at the end.
-fn of_line() -> impl Iterator<Item = Mistake> {
-    Mistake::ALL.into_iter().skip_while(|&mistake| mistake != Mistake::PickedNotTold)
-}
-
-/// Those of audiences.
-fn of_audiences() -> impl Iterator<Item = Mistake> {
-    of_line().take_while(|&mistake| mistake != Mistake::MergeOverwrites)
+    Mistake::ALL.into_iter().skip_while(|&mistake| mistake != Mistake::FactorOneLess)
 }
 
 /// The mistakes of the later calls, which have parts of their own.
 fn of_later_calls() -> impl Iterator<Item = Mistake> {
     let before_forms = of_points().chain(of_desks()).chain(of_impact()).chain(of_ways());
-    let before_line = before_forms.chain(of_forms()).chain(of_templates()).chain(of_small_plans());
-    before_line.chain(of_loads()).chain(of_line())
+    before_forms.chain(of_forms()).chain(of_templates()).chain(of_small_plans()).chain(of_loads())
 }
 
 /// These parts find nothing between two copies of the reference, in each of
@@ -129,9 +115,6 @@ fn two_copies_of_the_reference_agree() {
     assert_eq!(tally.jobs.walks, 1);
     assert!(tally.jobs.loads > 1000 && tally.jobs.wrapping_counts > 100, "{}", tally.jobs.loads);
     assert!(tally.jobs.load_steps > 20_000 && tally.jobs.load_passed > 1000, "{}", tally.jobs.load_passed);
-    assert!(tally.jobs.settled > 100 && tally.jobs.line_events > 1500, "{}", tally.jobs.line_events);
-    assert!(tally.jobs.line_messages > 800 && tally.jobs.line_news > 400, "{}", tally.jobs.line_news);
-    assert!(tally.jobs.forgetful > 50 && tally.jobs.line_held_early > 500, "{}", tally.jobs.forgetful);
 }
 
 #[test]
@@ -244,7 +227,7 @@ fn a_mistake_on_both_sides_is_found() {
 fn cases_have_their_answers() {
     let options = Options { only: Some(CASES_PART), ..Options::default() };
     let tally = run(Reference, options);
-    assert_eq!((tally.comparisons(), tally.differences()), (3044, 0), "{:#?}", tally.described());
+    assert_eq!((tally.comparisons(), tally.differences()), (1556, 0), "{:#?}", tally.described());
     let mistakes = [
         Mistake::VersionInTheLowestByte,
         Mistake::VersionOneHigher,
@@ -649,80 +632,6 @@ fn every_small_plan_comes_once() {
 fn loads_are_held_against_their_places() {
     let mistakes: Vec<Mistake> = of_loads().collect();
     parts_find([LOADS_PART, 20], 29, |tally| tally.jobs.load_steps, &mistakes);
-}
-
-/// The line alone finds what is wrong with it, even if both sides do it: by the guards, by the
-/// table, by messages, and by the central rule.
-#[test]
-fn the_line_is_held_against_the_guards() {
-    let mistakes: Vec<Mistake> = of_line().collect();
-    parts_find([LINE_PART, 20], 30, |tally| tally.jobs.settled, &mistakes);
-}
-
-/// Jobs on a line, here with desks, find an audience that leaves somebody out by the central rule
-/// alone, even if both sides do it: who is not told lets nothing pass. They find rows that are not
-/// merged as they should be, too.
-#[test]
-fn jobs_on_a_line_are_held_against_the_central_rule() {
-    let mistakes = [
-        Mistake::PickedNotTold,
-        Mistake::OnlyThePickedTold,
-        Mistake::PickToTheParent,
-        Mistake::PickToEarlierOnes,
-        Mistake::SerialCommitToTheParent,
-        Mistake::LastCommitNotTold,
-        Mistake::ContingencyCommitToTheNext,
-        Mistake::ContingencyAbortToTheParent,
-        Mistake::LastAbortNotTold,
-        Mistake::SerialAbortToTheNext,
-        Mistake::SerialAbortNotTold,
-        Mistake::SerialStartNotTold,
-        Mistake::OrStartToTheFirst,
-        Mistake::XorStartNotTold,
-        Mistake::WaitingAndNotCovered,
-        Mistake::WaitingAndCommitNotTold,
-        Mistake::OrAbortNotTold,
-        Mistake::NoToTheFirst,
-        Mistake::YesToTheParent,
-        Mistake::OfferNotTold,
-        Mistake::TurnedDownNotTold,
-        Mistake::TurnedDownToSiblings,
-        Mistake::PickedCommitNotTold,
-        Mistake::NextByNumber,
-        Mistake::FirstByNumber,
-        Mistake::ToldCountLeftOut,
-        Mistake::MergeOverwrites,
-        Mistake::MergeIsXor,
-        Mistake::MergeIsAnd,
-        Mistake::MergeFillsGaps,
-        Mistake::PicksNotMerged,
-        Mistake::OldBitsCounted,
-        Mistake::TurnedDownNeverFits,
-        Mistake::NewByTheByte,
-    ];
-    parts_find([DESK_MOVES_PART, 60], 31, |tally| tally.jobs.line_events, &mistakes);
-}
-
-/// All events of all small plans find these too, even if both sides make them. What they don't try
-/// are plans that are refused, numbers that are wide, and large audiences.
-#[test]
-fn every_audience_is_tried() {
-    let options = Options { only: Some(SMALL_AUDIENCES_PART), enough: 1, ..Options::default() };
-    let tally = run(Reference, options);
-    assert_eq!(tally.differences(), 0, "{:#?}", tally.described());
-    assert_eq!((tally.comparisons(), tally.jobs.audiences), (452_844, 166_176));
-    let not_tried = [
-        Mistake::NineTold,
-        Mistake::ToldLengthFirst,
-        Mistake::ToldEventBeforePlan,
-        Mistake::ToldCodeCut,
-        Mistake::ToldNodeCut,
-        Mistake::ToldInDeepPlans,
-    ];
-    for mistake in of_audiences().filter(|mistake| !not_tried.contains(mistake)) {
-        let tally = run_against(Broken::new(mistake), Broken::new(mistake), options);
-        assert_ne!(tally.differences(), 0, "{mistake:?} on both sides is not found");
-    }
 }
 
 /// Trying every row of an only child finds a turn-down that passes, and

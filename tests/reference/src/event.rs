@@ -69,7 +69,7 @@ impl Event {
     }
 
     /// Whether this can happen to a node of its kind and place at all.
-    pub(crate) fn applies(self, plan: &Plan) -> bool {
+    fn applies(self, plan: &Plan) -> bool {
         match self.code {
             Code::Start | Code::Commit | Code::Abort => true,
             Code::Offer | Code::Pick | Code::TurnedDown => plan.xor_above(self.node).is_some(),
@@ -99,16 +99,6 @@ impl Event {
     pub fn clear(self, row: &mut [u8]) {
         row[self.node] &= !self.code.bit();
     }
-}
-
-/// The bits of all events that apply to a node.
-pub(crate) fn applying(plan: &Plan, node: usize) -> u8 {
-    const EVERY: u8 = Code::Start.bit() | Code::Commit.bit() | Code::Abort.bit();
-    const ANSWERS: u8 = Code::Yes.bit() | Code::No.bit();
-    const CHOICE: u8 = Code::Offer.bit() | Code::Pick.bit() | Code::TurnedDown.bit();
-    let answers = if plan.kind(node) == Kind::Conditional { ANSWERS } else { 0 };
-    let choice = if plan.xor_above(node).is_some() { CHOICE } else { 0 };
-    EVERY | answers | choice
 }
 
 /// A node or site number from outside, if the plan has it.

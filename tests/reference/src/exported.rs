@@ -16,7 +16,7 @@ use crate::site::Verdict;
 use crate::table::Table;
 use crate::way as ways;
 use crate::{central as central_rule, desks, forms, guard as guards, journal as journals};
-use crate::{impact as impacts, line, load, pass as passes, plan, points, small};
+use crate::{impact as impacts, load, pass as passes, plan, points, small};
 use crate::{rewrite as rewriting, rule as rules, simulate as simulation, site as sites, text as texts};
 
 /// The number in a packed result.
@@ -114,34 +114,10 @@ pub fn step(plan: &[u8], code: u32, node: u32, row: &mut [u8]) -> u32 {
     verdict(sites::step(plan, code, node, row))
 }
 
-/// A message into a site's row; the value is 1 if it is new there, and 0 for a
-/// repeat. 1 to 9.
+/// A message into a site's row. 1 to 9.
 #[inline(never)]
 pub fn hear(plan: &[u8], code: u32, node: u32, row: &mut [u8]) -> u32 {
-    match sites::hear(plan, code, node, row) {
-        Ok(is_new) => u32::from(is_new) << 16,
-        Err(cause) => refused(cause),
-    }
-}
-
-/// Writes who has to be told of an event; the value is how many sites that are. 1
-/// to 6, 8, 9, 7.
-#[inline(never)]
-pub fn audience(plan: &[u8], code: u32, node: u32, out: &mut [u8]) -> u32 {
-    match line::audience(plan, code, node, out) {
-        Ok(sites) => (sites as u32) << 16,
-        Err(cause) => refused(cause),
-    }
-}
-
-/// Merges another row into a site's row; the value is how many events are new
-/// there. 1 to 7, 9.
-#[inline(never)]
-pub fn merge(plan: &[u8], row: &mut [u8], other: &[u8]) -> u32 {
-    match line::merge(plan, row, other) {
-        Ok(new) => new << 16,
-        Err(cause) => refused(cause),
-    }
+    done(sites::hear(plan, code, node, row))
 }
 
 /// The single pass. 1 to 7, 13, 14.
@@ -366,10 +342,10 @@ pub fn workload(plan: &[u8], seed: u32, count: u32, out: &mut [u8]) -> u32 {
     done(load::workload(plan, seed, count, out))
 }
 
-/// The version of these calls, a byte each for its three numbers: 1.10.0.
+/// The version of these calls, a byte each for its three numbers: 1.9.0.
 #[inline(never)]
 pub fn version() -> u32 {
-    (1 << 16) + (10 << 8)
+    (1 << 16) + (9 << 8)
 }
 
 /// The central rule; the value is 1 if the event was allowed. 1 to 9.

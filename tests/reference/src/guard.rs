@@ -62,22 +62,6 @@ impl Guard {
         }
     }
 
-    /// Whether an event stands in one of its clauses.
-    pub fn names(self, plan: &Plan, event: Event) -> bool {
-        let Event { code, node } = event;
-        match self {
-            Guard::Open => false,
-            Guard::One(needed) => needed == event,
-            Guard::OverChildren { of, each, any } => {
-                plan.parent(node) == Some(of) && (each.contains(&code) || any == Some(code))
-            }
-            Guard::LostPick { node: loser, xor } => {
-                let is_offer = code == Code::Offer && node == loser;
-                is_offer || code == Code::Pick && node != loser && plan.parent(node) == Some(xor)
-            }
-        }
-    }
-
     /// How many bytes it has when written out.
     pub fn length(self, plan: &Plan) -> usize {
         match self {

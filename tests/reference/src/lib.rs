@@ -26,7 +26,6 @@ pub mod guard;
 pub mod impact;
 pub mod journal;
 pub mod layout;
-pub mod line;
 pub mod lists;
 pub mod load;
 pub mod mark;

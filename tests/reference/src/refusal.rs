@@ -22,8 +22,8 @@ pub enum Refusal {
     Length = 7,
     /// A code, node or site that doesn't exist, or a desk that isn't in use.
     Unknown = 8,
-    /// The event doesn't apply to its node, or one in a row that is merged; or a
-    /// node that should be a task is none.
+    /// The event doesn't apply to its node, or a node that should be a task is
+    /// none.
     NotApplicable = 9,
     /// Something already heard shuts the event out.
     Barred = 10,

@@ -52,13 +52,12 @@ pub(crate) fn step_in(layout: &impl Layout, code: u32, node: u32, row: &mut [u8]
     }
 }
 
-/// A message into a row; answers whether it was new there. Whether the event has
-/// happened is for the caller to know.
-pub fn hear(plan: &[u8], code: u32, node: u32, row: &mut [u8]) -> Result<bool, Refusal> {
+/// A message into a row. Whether the event has happened is for the caller to
+/// know.
+pub fn hear(plan: &[u8], code: u32, node: u32, row: &mut [u8]) -> Result<(), Refusal> {
     let event = read(&Plan::check(plan)?, code, node, row)?;
-    let is_new = !event.is_heard(row);
     event.set(row);
-    Ok(is_new)
+    Ok(())
 }
 
 /// Tries an event at its site: bars first, then the guard. A passed event is

@@ -55,7 +55,6 @@ fn exported_functions_do_not_allocate() {
             sum += exported::rule(&plan, code, node);
             sum += exported::step(&plan, code, node, &mut marks);
             sum += exported::hear(&plan, code, node, &mut marks);
-            sum += exported::audience(&plan, code, node, &mut buffer);
             sum += exported::simulate(&plan, code, node, HAPPENS, &mut state);
             sum += exported::simulate(&plan, code, node, 1, &mut state);
             sum += exported::keep(&plan, code, node, HAPPENS, &mut kept, &mut entries, &mut count);
@@ -80,7 +79,6 @@ fn exported_functions_do_not_allocate() {
     sum += exported::desk_check(&desks);
     sum += exported::desk_record(&desks, &rows, &mut marks, &mut notes);
     sum += exported::desk_record_by(&desks, &COMMON_TABLE, &rows, &mut marks, &mut notes);
-    sum += exported::merge(&plan, &mut [0; 6], &[1; 6]);
     sum += exported::pass(&plan, &answers, &mut marks);
     sum += exported::impact(&plan, &answers, &mut marks, 5, 2);
     for mark in 0..6 {

@@ -65,8 +65,8 @@ fn p9_with_pick_0_is_14() {
 }
 
 #[test]
-fn the_version_is_1_10_0() {
-    assert_eq!(version(), 68_096);
+fn the_version_is_1_9_0() {
+    assert_eq!(version(), 67_840);
 }
 
 #[test]

@@ -67,8 +67,6 @@ fn plan_refusals_come_first_everywhere() {
                 assert_eq!(rule(&plan, code, node), expected);
                 assert_eq!(step(&plan, code, node, &mut lent), expected);
                 assert_eq!(hear(&plan, code, node, &mut lent), expected);
-                assert_eq!(audience(&plan, code, node, &mut lent), expected);
-                assert_eq!(merge(&plan, &mut lent, &other), expected);
                 assert_eq!(simulate(&plan, code, node, HAPPENS, &mut lent), expected);
                 assert_eq!(simulate(&plan, code, node, 0, &mut lent), expected);
                 assert_eq!(simulate(&plan, code, node, 400, &mut lent), expected);
@@ -211,7 +209,7 @@ fn step_10_and_11_name_the_site_and_leave_the_row() {
     assert_eq!(step(&plan, START, 3, &mut row), 11 | 3 << 8);
     assert_eq!(step(&plan, PICK, 3, &mut row), 11 | 2 << 8);
     assert_eq!(row, [0; 6]);
-    assert_eq!(hear(&plan, START, 2, &mut row), 1 << 16);
+    assert_eq!(hear(&plan, START, 2, &mut row), 0);
     assert_eq!(step(&plan, START, 3, &mut row), passed(3, 0x51));
     assert_eq!(row, [0, 0, 1, 1, 0, 0]);
     assert_eq!(step(&plan, START, 3, &mut row), 10 | 3 << 8);

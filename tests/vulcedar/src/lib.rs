@@ -77,32 +77,10 @@ pub fn step(plan: &[u8], code: u32, node: u32, row: &mut [u8]) -> u32 {
     unsafe { raw::vulcedar_step(plan.as_ptr(), plan.len(), code, node, row.as_mut_ptr(), row.len()) }
 }
 
-/// A message into a site's row; the value is 1 if it is new there.
+/// A message into a site's row.
 pub fn hear(plan: &[u8], code: u32, node: u32, row: &mut [u8]) -> u32 {
     // SAFETY: as for `rewrite`.
     unsafe { raw::vulcedar_hear(plan.as_ptr(), plan.len(), code, node, row.as_mut_ptr(), row.len()) }
-}
-
-/// Writes who has to be told of an event to the front; the value is how many sites
-/// that are.
-pub fn audience(plan: &[u8], code: u32, node: u32, out: &mut [u8]) -> u32 {
-    // SAFETY: as for `rewrite`.
-    unsafe { raw::vulcedar_audience(plan.as_ptr(), plan.len(), code, node, out.as_mut_ptr(), out.len()) }
-}
-
-/// Merges another row into a site's row; the value is how many events are new there.
-pub fn merge(plan: &[u8], row: &mut [u8], other: &[u8]) -> u32 {
-    // SAFETY: as for `rewrite`.
-    unsafe {
-        raw::vulcedar_merge(
-            plan.as_ptr(),
-            plan.len(),
-            row.as_mut_ptr(),
-            row.len(),
-            other.as_ptr(),
-            other.len(),
-        )
-    }
 }
 
 /// The single pass.

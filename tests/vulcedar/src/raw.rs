@@ -66,24 +66,6 @@ unsafe extern "C" {
         row_length: usize,
     ) -> u32;
 
-    pub fn vulcedar_audience(
-        plan: *const u8,
-        plan_length: usize,
-        code: u32,
-        node: u32,
-        out: *mut u8,
-        out_length: usize,
-    ) -> u32;
-
-    pub fn vulcedar_merge(
-        plan: *const u8,
-        plan_length: usize,
-        row: *mut u8,
-        row_length: usize,
-        other: *const u8,
-        other_length: usize,
-    ) -> u32;
-
     pub fn vulcedar_pass(
         plan: *const u8,
         plan_length: usize,

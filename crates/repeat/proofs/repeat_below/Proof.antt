@@ -61,8 +61,8 @@ returns-3 c = nodes-no (counted c.before) c.before.before.before.before.before.b
 place-repeated-requires : tie.Need-place-repeated-requires
 place-repeated-requires c κs = (template c.before.before.before.before.before.before.before.before.before.before, root-ready (counted c.before.before.before.before) c.before.before.before.if3.false c.before.before.before.before.before.before.before.before.before.before.before.before.before.before.before.before.link-all.ensures c.before.before.before.before.before.before.before.before.before.before.before.before.before.before.before.before.before.before.before.before.before.args.out.now c.before.before.before.before.before.before.before.before.before.before.before.before.before.before.before.before.before.before.before.before.before.requires.2)
 
-cast-value : tie.Need-overflow-cast-value
-cast-value c = search rules
+cast-t13 : tie.Need-overflow-cast-t13
+cast-t13 c = search rules
 
 same_length : tie.Need-same-length
 same_length c = search rules
@@ -71,4 +71,4 @@ returns-4 : tie.Need-returns-4
 returns-4 c = repeat-done (counted c.before.before.before.before.before.before.before) c.before.before.before.before.before.before.if3.false c.before.before.before.before.before.before.before.before.before.before.before.before.before.before.before.before.before.before.before.before.before.before.before.before.args.out.now _ _ c.before.before.before.before.before.before.before.before.before.before.before.before.before.before.before.before.before.before.before.before.before.before.before.before.requires.2 c.before.before.place-repeated.ensures
 
 pub repeat-below-spec : {M : Type 1} → statement M
-repeat-below-spec = tie.close (tie.spec link-all-requires kind-at-requires can-repeat-requires one-child-requires returns times-ok-requires returns-2 node-count-requires sub-nodes count-below-requires mul-nodes add-nodes returns-3 place-repeated-requires cast-value same_length returns-4)
+repeat-below-spec = tie.close (tie.spec link-all-requires kind-at-requires can-repeat-requires one-child-requires returns times-ok-requires returns-2 node-count-requires sub-nodes count-below-requires mul-nodes add-nodes returns-3 place-repeated-requires cast-t13 same_length returns-4)

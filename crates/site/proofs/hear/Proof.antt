@@ -1,6 +1,5 @@
 -- The tests, then the bit. Assumes nothing.
 use mathlib.Core.Path.{◌≡◌, sym, ◌∙◌}
-use mathlib.Core.Bool.{true, false}
 use native.Mathlib.Omega.{arith}
 use Rattle.site.specs.Step.{step_invalid}
 use Rattle.site.proofs.StepLaws.{step-tested, hear-invalid, hear-valid}
@@ -25,17 +24,11 @@ validate-requires c κs = search rules
 returns : tie.Need-returns
 returns c = hear-invalid _ _ _ _ _ (tested c.before) c.if1.true
 
-cast-heard : tie.Need-overflow-cast-heard
-cast-heard c = let k = step-tested _ _ _ _ (zero c.before) in omega arith
-
-heard-requires : tie.Need-heard-requires
-heard-requires c κs = search rules
-
 cast-set-heard : tie.Need-overflow-cast-set-heard
-cast-set-heard c = let k = step-tested _ _ _ _ (zero c.before.before.before) in omega arith
+cast-set-heard c = let k = step-tested _ _ _ _ (zero c.before) in omega arith
 
 cast-set-heard-2 : tie.Need-overflow-cast-set-heard-2
-cast-set-heard-2 c = let k = step-tested _ _ _ _ (zero c.before.before.before) in omega (arith, k.plan.few)
+cast-set-heard-2 c = let k = step-tested _ _ _ _ (zero c.before) in omega (arith, k.plan.few)
 
 set-heard-requires : tie.Need-set-heard-requires
 set-heard-requires c κs = search rules
@@ -44,17 +37,7 @@ same_length : tie.Need-same-length
 same_length c = search rules
 
 returns-2 : tie.Need-returns-2
-returns-2 c =
-    let h = c.before.before.before.before.before in
-    hear-valid _ _ _ _ (zero h.before.before) true (sym c.if2.true ∙ h.heard.ensures) ∙ rw c.before.before.before.set-heard.ensures
-
-same-length-2 : tie.Need-same-length-2
-same-length-2 c = search rules
-
-returns-3 : tie.Need-returns-3
-returns-3 c =
-    let h = c.before.before.before.before.before in
-    hear-valid _ _ _ _ (zero h.before.before) false (sym c.if2.false ∙ h.heard.ensures) ∙ rw c.before.before.before.set-heard.ensures
+returns-2 c = hear-valid _ _ _ _ (zero c.before.before.before.before) ∙ rw c.before.before.set-heard.ensures
 
 pub hear-spec : {M : Type 1} → statement M
 hear-spec =
@@ -63,12 +46,8 @@ hear-spec =
     node-count-requires
     validate-requires
     returns
-    cast-heard
-    heard-requires
     cast-set-heard
     cast-set-heard-2
     set-heard-requires
     same_length
-    returns-2
-    same-length-2
-    returns-3)
+    returns-2)

@@ -1,4 +1,0 @@
--- Laws of the search for whom to tell.
-pub mod NextLaws
-pub mod WhomLaws
-pub mod CallLaws

@@ -1,2 +1,0 @@
--- Letters: p a plan, u v x nodes.
-pub mod Whom

@@ -1,8 +1,0 @@
--- Laws that the proofs here and in upper crates cite.
-pub mod ByteLaws
-pub mod FitLaws
-pub mod CountLaws
-pub mod JoinLaws
-pub mod MergeLaws
-pub mod Main
-pub mod Cases

@@ -1,4 +1,0 @@
--- Letters: p a plan, row other rows, x y b bytes, v a node, n a number.
-pub mod Merge
-pub mod Bytes
-pub mod Claim
