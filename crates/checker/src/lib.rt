@@ -211,6 +211,6 @@ pub fn check_depths(plan: &[u8], out: &mut [u8]) -> u8
     if out.len() != n {
         return 7;
     }
-    bytes::copy(&depths[..n], out);
+    lists::copy(&depths[..n], out);
     0
 }

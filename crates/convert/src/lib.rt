@@ -168,6 +168,6 @@ pub fn from_depths(depths: &[u8], out: &mut [u8]) -> u8
     if bad != 0 {
         return bad;
     }
-    bytes::copy(&plan[..n], out);
+    lists::copy(&plan[..n], out);
     0
 }

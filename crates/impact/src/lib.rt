@@ -37,7 +37,7 @@ fn replace(answers: &[u8], t: usize, x: u8, out: &mut [u8])
     requires { (length answers.now ≡ length out.old) × (t < length answers.now) }
     ensures { out.new ≡ set answers.now t x }
 {
-    bytes::copy(answers, out);
+    lists::copy(answers, out);
     out[t] = x;
 }
 

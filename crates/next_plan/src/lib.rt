@@ -141,7 +141,7 @@ pub fn next_plan(plan: &[u8], out: &mut [u8]) -> Made
         };
     }
     let mut q = [0u8; 12];
-    bytes::copy(plan, &mut q);
+    lists::copy(plan, &mut q);
     let m = search(&mut q, n);
     if 10 < m {
         return Made {
@@ -155,7 +155,7 @@ pub fn next_plan(plan: &[u8], out: &mut [u8]) -> Made
             nodes: 0,
         };
     }
-    bytes::copy(&q[..m], out);
+    lists::copy(&q[..m], out);
     Made {
         number: 0,
         nodes: (m / 2) as u8,

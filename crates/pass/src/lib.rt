@@ -183,7 +183,7 @@ pub fn settle_all(plan: &[u8], answers: &[u8], marks: &mut [u8]) -> u8
     if o > 4 {
         return o;
     }
-    bytes::copy(&buf[..n], marks);
+    lists::copy(&buf[..n], marks);
     marks[0] = o;
     0
 }

@@ -37,7 +37,7 @@ fn write_short(plan: &[u8], code: u8, v: u8, rule: u8, buf: &mut [u8]) -> Writte
     if buf.len() < length {
         return Written::Refused(7);
     }
-    bytes::copy(&local[..length], buf);
+    lists::copy(&local[..length], buf);
     Written::Done(WrittenGuard { length, rule })
 }
 
