@@ -24,13 +24,13 @@ returns-in_default-2 c = absurd (omega arith)
 
 pub returns-in-5 : goal.returns-in-5
 returns-in-5 c = elim c.in-2-1.branch [
-  in-2-1 w ↦ sym (applies-offer _ _ _ (omega arith) ∙ eq-eqb _ 5 (omega arith))
+  | in-2-1 w ↦ sym (applies-offer _ _ _ (omega arith) ∙ eq-eqb _ 5 (omega arith))
   | in_default+else-code-lt1+else-code-lt5+else-code-lt7+then-code-lt9 w ↦ sym (applies-choice _ _ _ (omega arith) (omega arith) ∙ eq-eqb _ 5 (omega arith))
 ]
 
 pub returns-in_default-above : goal.returns-in_default-above
 returns-in_default-above c = elim c.in-2-1.branch [
-  in-2-1 w ↦ sym (applies-offer _ _ _ (omega arith) ∙ ne_eqb _ 5 (omega arith))
+  | in-2-1 w ↦ sym (applies-offer _ _ _ (omega arith) ∙ ne_eqb _ 5 (omega arith))
   | in_default+else-code-lt1+else-code-lt5+else-code-lt7+then-code-lt9 w ↦ sym (applies-choice _ _ _ (omega arith) (omega arith) ∙ ne_eqb _ 5 (omega arith))
 ]
 
