@@ -74,7 +74,8 @@ def take(root):
                     print(f"{edit}: {text.count(a)} times in {path}: {a.strip()[:100]}")
                     bad += 1
                 out += [f"old: {a}", f"new: {b}"]
-        write(edit, "\n".join(out) + "\n")
+        # today's rt tries each edit over what the crate's own check proved: those of must-fail/more stand with the others
+        write(edit.replace("/must-fail/more/", "/must-fail/"), "\n".join(out) + "\n")
     print(f"{bad} to do by hand")
 
 
