@@ -53,6 +53,7 @@ sound-top (grown a b e l s r) = record { low = a; high = b; counted = e; shallow
 
 sound-in : (kind : ℕ → ℕ) (below : ℕ → Forest) (d : ℕ) (cs : List ℕ) {c : ℕ} → Sound d (trees_of kind below cs) → In c cs → Good d (kind c) (below c)
 unfolding trees_of
+sound-in kind below d [] {c = c} s x'' = elim x'' [ ]
 sound-in kind below d (x ∷ cs) s (here q) = rw q (sound-top s)
 sound-in kind below d (x ∷ cs) (grown a b e l s r) (there i) = sound-in kind below d cs r i
 

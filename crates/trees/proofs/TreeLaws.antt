@@ -23,6 +23,7 @@ trees-same kind a b (c ∷ cs) h = rw (h c (here refl), trees-same kind a b cs (
 -- each of the trees has fewer nodes below its top than there are in all
 pub count-in : (kind : ℕ → ℕ) (below : ℕ → Forest) (cs : List ℕ) {c : ℕ} → In c cs → node_count (below c) < node_count (trees_of kind below cs)
 unfolding trees_of node_count
+count-in kind below [] {c = c} x' = elim x' [ ]
 count-in kind below (x ∷ cs) (here q) = omega (arith, ap (λ y. node_count (below y)) q)
 count-in kind below (x ∷ cs) (there i) = omega (arith, count-in kind below cs i)
 
