@@ -2,4 +2,3 @@
 // which forms there are and what a plan and a form make of each other, specs/Calls.antt what the calls answer and leave, specs/Claim.antt has
 // the claims.
 #![tactic(auto)]
-
