@@ -34,6 +34,7 @@ count-times (suc r) t = count-beside t (times r t) ∙ rw (count-times r t) (ome
 count-one : (kind : ℕ → ℕ) (a b : ℕ → Forest) (x k : ℕ) → node_count (a x) ≡ node_count (b x) + k → {low : ℕ} (cs : List ℕ) → Rising low cs → In x cs →
     ((c : ℕ) → In c cs → (c ≡ x → ⊥) → a c ≡ b c) → node_count (trees_of kind a cs) ≡ node_count (trees_of kind b cs) + k
 unfolding trees_of node_count
+count-one kind a b x k e {low = low} mathlib.Core.List.[] _ x5 same = elim x5 [ ]
 count-one kind a b x k e (c ∷ cs) (next l h) (here q) same =
     let rest : trees_of kind a cs ≡ trees_of kind b cs = trees-same kind a b cs (λ d i. same d (there i) (λ z. let g = rising-above h i in omega (arith, q))) in
     let own : node_count (a c) ≡ node_count (b c) + k = rw q at e in

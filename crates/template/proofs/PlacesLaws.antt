@@ -11,7 +11,7 @@ use Rattle.lists.proofs.Logic.{cases, decided}
 use Rattle.lists.proofs.Members.{rising-above}
 use Rattle.plan.specs.Plan.{size, kind_byte, children}
 use Rattle.plan.specs.Check.{Accepted}
-use Rattle.plan.specs.Under.{Under, up}
+use Rattle.plan.specs.Under.{Under}
 use Rattle.plan.proofs.PlanLaws.{child-of, rising-children}
 use Rattle.plan.proofs.AcceptedLaws.{accepted-ordered}
 use Rattle.plan.proofs.UnderLaws.{under-below, apart, through, under-root}
@@ -21,7 +21,7 @@ use Rattle.trees.proofs.LaidLaws.{Laid, first, Alike, laid-alike}
 use Rattle.trees.proofs.TreeLaws.{trees-same, trees-step}
 use Rattle.trees.proofs.RenumberLaws.{below-count}
 use Rattle.trees.proofs.WrittenLaws.{plan-laid}
-use Rattle.template.specs.Repeat.{times, repeated_below, repeated_tree, repeated, moved}
+use Rattle.template.specs.Repeat.{repeated_below, repeated_tree, repeated, moved}
 use Rattle.template.specs.Claim.{Moves, Places}
 use Rattle.template.proofs.StepLaws.{step-marked, step_other, outside}
 use Rattle.template.proofs.CountLaws.{count-path}
@@ -121,6 +121,7 @@ module _ (p : List ℕ) (ok : Accepted p) (ordered : in_preorder p ≡ true) whe
 
       walk : (n : ℕ) {low : ℕ} (cs : List ℕ) → v < n → Rising low cs → Run p n cs → ((c : ℕ) → In c cs → In c (children p v)) → In d cs →
           Laid p (trees p cs) v n → Laid q (repeated_trees cs) v n → Lines n (n + node_count (trees p cs))
+      walk n {low = low} mathlib.Core.List.[] b _ _ sub x9 g h = elim x9 [ ]
       walk n (c ∷ cs) b (next x rise) (on own run) sub (here e) g h =
           let y : c ≡ d = sym e in
           let z : n ≡ d = sym own ∙ y in
