@@ -19,6 +19,7 @@ use Rattle.pass_nodes.proofs.EndLaws.{clean-node, tally-sound}
 pub among-before : (k : Kind) (x : ℕ) (e g : ℕ → Outcome) (b : ℕ) (cs : List ℕ) (t : Tally) (c : ℕ) → Rising b cs → In c cs →
     ((d : ℕ) → In d cs → d ≤ c → e d ≡ g d) → mark_among k x e cs t c ≡ mark_among k x g cs t c
 unfolding mark_among
+among-before k x e g b [] t c _ x5 h = elim x5 [ ]
 among-before k x e g b (d ∷ cs) t c (next l r) (here q) h = rw (eq-eqb d c (sym q)) (ap (next_mark k x t) (h d (here refl) (omega arith)))
 among-before k x e g b (d ∷ cs) t c (next l r) (there i) h =
     let z = rising-above r i in
