@@ -6,7 +6,7 @@ ghost use Rattle.guard.specs.Shape.{shape, first_shape, later_shape, finish_shap
 
 // A line of the table, over the nodes that the guard names: [code of node] where `each` is 0, else for each of them the first `each` of [code,
 // abort, turned down]; then [any of them]. The code 0 leaves its part out.
-#[derive(Drop)]
+#[derive(Clone, Copy)]
 pub struct Shape {
     pub code: u8,
     pub node: usize,
