@@ -10,7 +10,7 @@ use lib.ListN.{length, get_or}
 use borrow.Author.Tests.{eqb-true, eqb-false}
 use Rattle.lists.proofs.Logic.{cases, decided}
 use Rattle.lists.specs.Seq.{keep, up_from, all_below}
-use Rattle.lists.specs.Smallest.{here, there}
+use Rattle.lists.specs.Smallest.{here}
 use Rattle.lists.proofs.OrderLaws.{less-trans}
 use Rattle.plan.specs.Plan.{kind_of, size, kind_byte, kind, parent, children_below, children, child_count, depth_within, depth}
 use Rattle.plan.specs.Check.{length_ok, kind_ok, parent_ok, under_block, fits, count_ok, depth_ok, at_all, check_number, Accepted}

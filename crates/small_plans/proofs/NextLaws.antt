@@ -15,7 +15,7 @@ use Rattle.plan.specs.Plan.{size, kind_byte, parent}
 use Rattle.plan.specs.Check.{check_number, Accepted}
 use Rattle.plan.proofs.PlanLaws.{size-half}
 use Rattle.plan.proofs.Main.{check-exact}
-use Rattle.lists.specs.Smallest.{Less, here, there, smallest}
+use Rattle.lists.specs.Smallest.{Less, here, there}
 use Rattle.lists.proofs.SmallestLaws.{below-empty, below-found, no-list, Smallest, found-least}
 use Rattle.lists.proofs.OrderLaws.{less-apart}
 use Rattle.small_plans.specs.Order.{is_less, is_before, Before, is_later, next_plan}

@@ -31,6 +31,8 @@ value_low (b ∷ l) h = omega (arith, product b 256 (power (length l)) (h 0), va
 
 value-less : (l m : List ℕ) → length l ≡ length m → ((i : ℕ) → get_or l i 0 < 256) → Less l m → value l < value m
 unfolding value
+value-less (b ∷ l) [] e s x7 = elim x7 [ ]
+value-less [] m e s x3 = elim x3 [ ]
 value-less (b ∷ l) (c ∷ m) e s (here h) =
     let same : power (length m) ≡ power (length l) = ap power (let z : length m ≡ length l = omega arith in z) in
     rw same (omega (arith, product b c (power (length l)) h, value_low l (λ i. s (suc i))))
