@@ -1,11 +1,12 @@
 #!/usr/bin/env bash
-# The program rehearse from outside, the proved one (target/bin/rehearse) and the command in C over the archive (target/rehearse/rehearse): the
+# The program rehearse from outside, the proved one (crates/rehearse/out/rehearse) and the command in C over the archive (target/rehearse/rehearse): the
 # examples (a captioning day, an and-block that ends early, a table of classes of the house), the text limit and input that is no text, by both;
 # the command's exit status, its options and failing output; and the same bytes from both for some hundred changed texts.
 set -euo pipefail
 cd "$(dirname "$0")/.."
-proved=target/bin/rehearse
-[ -x "$proved" ] || rt check rehearse
+proved=crates/rehearse/out/rehearse
+(cd crates/rehearse && rt run < /dev/null > /dev/null 2>&1)
+[ -x "$proved" ]
 command=target/rehearse/rehearse
 checked=target/rehearse/rehearse-san
 mkdir -p target/rehearse

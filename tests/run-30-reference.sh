@@ -6,8 +6,8 @@ sh packaging/need.sh cargo
 export CARGO_TARGET_DIR="$PWD/target/cargo" CARGO_NET_OFFLINE=true
 cd tests
 cargo test --release --offline --quiet
-if [ -x ../target/bin/rehearse ]; then
-  VULCEDAR_REHEARSE="$PWD/../target/bin/rehearse" cargo run --release --offline --quiet -p differential --features archive
+if [ -x ../crates/rehearse/out/rehearse ]; then
+  VULCEDAR_REHEARSE="$PWD/../crates/rehearse/out/rehearse" cargo run --release --offline --quiet -p differential --features archive
 else
   cargo run --release --offline --quiet -p differential --features archive -- --texts 0
 fi

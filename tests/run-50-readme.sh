@@ -9,8 +9,7 @@ clone=$work/clone
 mkdir "$clone"
 if [ -e .git ] && command -v git > /dev/null; then git ls-files; else find . -type f ! -path './target/*' ! -path './.git/*'; fi > "$work/files"
 tar -cf - -T "$work/files" | tar -xf - -C "$clone"
-mkdir "$clone/target"
-for proved in target/rlib target/stamp; do [ ! -d "$proved" ] || cp -a "$proved" "$clone/target/"; done
+for proved in crates/*/out; do [ ! -d "$proved" ] || cp -a "$proved" "$clone/$proved"; done
 
 # the blocks, one a file, in order: 01.sh 02.text ..
 awk -v to="$work" '

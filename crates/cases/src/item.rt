@@ -3,6 +3,20 @@ ghost use Rattle.std.specs.Prelude.{◌≤◌, length};
 ghost use Rattle.io.specs.Counts.{IsPrefixLen};
 ghost use Rattle.cases.specs.Table.{Begins};
 
+// Where the line that begins at a place ends: at its line feed, or where the text does.
+pub(crate) fn line_end(text: &[u8], line: usize) -> usize
+    requires { line ≤ length text.now }
+    ensures later { line ≤ result }
+    ensures inside { result ≤ length text.now }
+{
+    for i in line..text.len() {
+        if text[i] == b'\n' {
+            return i;
+        }
+    }
+    text.len()
+}
+
 // The value of a digit, 0 of any other byte.
 fn digit(b: u8) -> u8
     ensures { result ≤ 15 }
@@ -34,7 +48,7 @@ fn given(text: &[u8], line: usize) -> usize
     requires { Begins line text.now }
     ensures { result ≤ 65536 }
 {
-    let end = bytes::scan::find(text, line, text.len(), b'\n');
+    let end = line_end(text, line);
     if end < line + 10 {
         return 0;
     }

@@ -20,7 +20,7 @@ mod say;
 ghost use Rattle.std.specs.Prelude.{◌≤◌, length};
 ghost use Rattle.cases.specs.Table.{Begins};
 
-use libc::STDIN_FILENO;
+const STDIN: i32 = 0;
 
 // The call of the line at a place, on a plan and handed bytes; a and b are lent as their lines say.
 fn tried(text: &[u8], at: usize, as_a: usize, as_b: usize, plan: &[u8], c: &[u8])
@@ -87,12 +87,12 @@ fn lines(text: &[u8])
             b'A'..=b'Z' => case(text, at, p, a, b, c),
             _ => {}
         }
-        at = bytes::scan::find(text, at, end, b'\n') + 1;
+        at = item::line_end(text, at) + 1;
     }
 }
 
 fn main() {
     let mut text = io::large_buffer();
-    let n = io::read_full(STDIN_FILENO, &mut text);
+    let n = io::read_full(STDIN, &mut text);
     lines(&text[..n]);
 }

@@ -1,10 +1,12 @@
 // Prints lines: headings, a case's label and result, and what became of its lent bytes. Every function is proved to be
 // safe for any input. There is nothing else to promise: none answers anything or writes to lent bytes, and no contract can speak of output.
-use libc::STDOUT_FILENO;
+use crate::item;
+
+const STDOUT: i32 = 1;
 
 fn put(b: u8) {
     let one = [b];
-    io::write_all(STDOUT_FILENO, &one);
+    io::write_all(STDOUT, &one);
 }
 
 // The words of the line that begins at a place, from a column on.
@@ -12,12 +14,12 @@ fn words(text: &[u8], line: usize, column: usize) {
     if text.len() < line {
         return;
     }
-    let end = bytes::scan::find(text, line, text.len(), b'\n');
+    let end = item::line_end(text, line);
     if end - line < column {
         return;
     }
     let from = line + column;
-    io::write_all(STDOUT_FILENO, &text[from..end]);
+    io::write_all(STDOUT, &text[from..end]);
 }
 
 // A line as it is.
@@ -27,20 +29,20 @@ pub(crate) fn heading(text: &[u8], line: usize) {
 }
 
 fn rule(b: u32) {
-    io::write_all(STDOUT_FILENO, b" rule ");
-    io::print_hex(STDOUT_FILENO, b as u64, 2);
+    io::write_all(STDOUT, b" rule ");
+    io::print_hex(STDOUT, b as u64, 2);
 }
 
 // A site's number.
 fn site(q: u32) {
-    io::write_all(STDOUT_FILENO, b" site ");
-    io::print_decimal(STDOUT_FILENO, q as u64);
+    io::write_all(STDOUT, b" site ");
+    io::print_decimal(STDOUT, q as u64);
 }
 
 // A value in brackets.
 fn value(v: u32) {
-    io::write_all(STDOUT_FILENO, b" (");
-    io::print_decimal(STDOUT_FILENO, v as u64);
+    io::write_all(STDOUT, b" (");
+    io::print_decimal(STDOUT, v as u64);
     put(b')');
 }
 
@@ -67,7 +69,7 @@ fn beside(letter: u8, number: u32, middle: u32, v: u32) {
 pub(crate) fn answer(text: &[u8], line: usize, res: u32) {
     words(text, line, 17);
     put(b' ');
-    io::print_decimal(STDOUT_FILENO, (res % 256) as u64);
+    io::print_decimal(STDOUT, (res % 256) as u64);
     let letter = plan::byte_at(text, line);
     beside(letter, res % 256, res / 256 % 256, res / 65536);
 }
@@ -84,7 +86,7 @@ fn shown(text: bool, list: &[u8], n: usize) {
             }
             put(b);
         } else {
-            io::print_hex(STDOUT_FILENO, b as u64, 2);
+            io::print_hex(STDOUT, b as u64, 2);
         }
         i += 1;
     }
@@ -108,13 +110,13 @@ pub(crate) fn lent(letter: u8, was_a: &[u8], a: &[u8], was_b: &[u8], b: &[u8]) {
     let m = changed(was_a, a);
     let n = changed(was_b, b);
     if m == 0 && n == 0 {
-        io::write_all(STDOUT_FILENO, b" left");
+        io::write_all(STDOUT, b" left");
     }
     if 0 < m {
         shown(letter == b'T', a, m);
     }
     if 0 < n {
-        io::write_all(STDOUT_FILENO, b", second");
+        io::write_all(STDOUT, b", second");
         shown(false, b, n);
     }
     put(b'\n');

@@ -2,13 +2,14 @@
 // A Rattle program has no exit status: the command that has one is tools/rehearse.c, over the same functions.
 #![tactic(auto)]
 
-use libc::{STDIN_FILENO, STDOUT_FILENO};
+const STDIN: i32 = 0;
+const STDOUT: i32 = 1;
 
 fn main() {
     // one byte more than is allowed, so that a longer text is seen to be longer
     let mut text = [0u8; 32769];
-    let n = io::read_full(STDIN_FILENO, &mut text);
+    let n = io::read_full(STDIN, &mut text);
     let mut out = [0u8; 16384];
     let m = script::rehearse(&text[..n], &mut out);
-    io::write_all(STDOUT_FILENO, &out[..m]);
+    io::write_all(STDOUT, &out[..m]);
 }
