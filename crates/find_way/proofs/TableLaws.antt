@@ -109,12 +109,12 @@ module _ {p first next a : List ℕ} {i : ℕ} {t : Target} {w : ℕ} {table : L
       (λ q. off-path p ok h.was a h.upto i t w h.same c (child-between p ok (parent p v) j).1
       (λ z. apart p ok (parent p v) c v j (parent-child p ok v (omega arith) l) (eqb-false c v q) w z u)))
 
-  path-same : (v : ℕ) → v < size p → Under p v w → marks_at (able p h.was h.upto t) v ≡ marks_at (able p a i t) v →
-      (u : ℕ) → Under p u v → marks_at (able p h.was h.upto t) u ≡ marks_at (able p a i t) u
-  path-same v l o e u (self q) = rw q e
-  path-same v l o e u (up z b) =
+  path-same : (u v : ℕ) → v < size p → Under p v w → marks_at (able p h.was h.upto t) v ≡ marks_at (able p a i t) v →
+      Under p u v → marks_at (able p h.was h.upto t) u ≡ marks_at (able p a i t) u
+  path-same u v l o e (self q) = rw q e
+  path-same u v l o e (up z b) =
       let k = ok.below v z l in
-      path-same (parent p v) (omega arith) (under-trans p (parent p v) v w (up z (self refl)) o) (up_same v l o (λ q. omega arith) e) u b
+      path-same u (parent p v) (omega arith) (under-trans p (parent p v) v w (up z (self refl)) o) (up_same v l o (λ q. omega arith) e) b
 
   module _ (m : ℕ) (e : m ≡ packed (marks_at (able p a i t) v)) where
     -- it can get what it could: all nodes above it too
@@ -122,7 +122,7 @@ module _ {p first next a : List ℕ} {i : ℕ} {t : Target} {w : ℕ} {table : L
     climb-stop q = record {
       long = h.long;
       each = λ u s. cases (under? p ok (suc v) u v (omega arith) h.within)
-          (λ b. h.old u s b ∙ ap packed (path-same v h.within h.above same u b)) (λ b. h.new u s b);
+          (λ b. h.old u s b ∙ ap packed (path-same u v h.within h.above same b)) (λ b. h.new u s b);
     }
       where
         same : marks_at (able p h.was h.upto t) v ≡ marks_at (able p a i t) v

@@ -37,7 +37,7 @@ struct Hope {
 }
 
 // A node, the mark wanted for it, and the end wanted for the root.
-#[derive(Drop)]
+#[derive(Clone, Copy)]
 struct Target {
     node: usize,
     mark: u32,
