@@ -71,6 +71,7 @@ module _ (n : ℕ) where
   }
     where
       go : (r : List ℕ) → Fits n i r → length r ≡ suc (length l) → Less (b ∷ l) r → Agree k i (b ∷ l) r ⊎ (((b ∷ a) ≡ r) ⊎ Less (b ∷ a) r)
+      go [] f e x3 = elim x3 [ ]
       go (c ∷ r) f e (here h) = inr (inr (here h))
       go (c ∷ r) (more x y f) e (there q h) = cases (next.least r f (omega arith) h) (λ s. inl (agree-more k i b c l r q s))
           (λ s. inr (cases s (λ s. inl (rw (q, s))) (λ s. inr (there q s))))
@@ -90,6 +91,7 @@ module _ (n : ℕ) where
     where
       go : (r : List ℕ) → Fits n i r → length r ≡ suc (length l) → Less (b ∷ l) r →
           Agree k i (b ∷ l) r ⊎ ((((b + 1) ∷ lows (suc i) (length l)) ≡ r) ⊎ Less ((b + 1) ∷ lows (suc i) (length l)) r)
+      go [] _ e x4 = elim x4 [ ]
       go (c ∷ r) (more x y f) e (there q h) = inl (agree-more k i b c l r q (stays r f (omega arith) h))
       go (c ∷ r) (more x y f) e (here h) = inr (cases (decided (eqb (b + 1) c))
           (λ z. let q = eqb-true (b + 1) c z in cases (lows-least (suc i) (length l) r f (omega arith)) (λ s. inl (rw (q, s))) (λ s. inr (there q s)))
@@ -105,6 +107,7 @@ module _ (n : ℕ) where
   not-raised k i b e l = ltb-false b (highest n i) (no_bool (ltb b (highest n i)) (λ z. clash _ (and-join _ _ (lt-ltb i k l) z) e))
 
   stays-more : (k i b : ℕ) (l : List ℕ) → (ltb i k && ltb b (highest n i)) ≡ false → Stays k (suc i) l → Stays k i (b ∷ l)
+  stays-more k i b l e stays [] _ m x5 j d = elim x5 [ ]
   stays-more k i b l e stays (c ∷ r) (more x y f) m (here h) j d = let z = not-raised k i b e (omega arith) in omega arith
   stays-more k i b l e stays (c ∷ r) (more x y f) m (there q h) j d = agree-more k i b c l r q (stays r f (omega arith) h) j d
 
