@@ -1,5 +1,4 @@
 -- The check in a local array, whose front is copied out where the plan is accepted and the lent bytes fit. Assumes nothing.
-use borrow.Author.Rules.{rules}
 use Rattle.checker.proofs.DepthsLaws.{depths-refused, depths-wrong, front-room, front_length, front_fits, depths-done}
 use Rattle.checker.proofs.check_depths.Goals as goal
 

@@ -3,7 +3,6 @@
 use mathlib.Core.Path.{◌≡◌, sym, ◌∙◌}
 use mathlib.Core.Bool.{true}
 use native.Mathlib.Omega.{arith}
-use borrow.Author.Rules.{rules}
 use Rattle.lists.proofs.Lent.{fresh-zeros, fresh-length, lent-room, lent_is, lent_length}
 use Rattle.plan.specs.Check.{length_ok, kind_ok, under_block, count_ok, at_all, Ordered}
 use Rattle.checker.proofs.TestLaws.{passed, failed, ordered-by}

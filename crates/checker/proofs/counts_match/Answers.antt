@@ -1,11 +1,9 @@
 use mathlib.Core.Path.{◌≡◌, ap, ◌∙◌}
-use Prim.Native.Nat.{◌-◌, ◌≤◌}
 use native.Mathlib.Omega.{arith}
 use lib.ListN.{length}
 use borrow.Author.Rules.{rules}
 use Rattle.lists.specs.Seq.{all_below}
 use Rattle.lists.proofs.Table.{table-length}
-use Rattle.plan.specs.Plan.{size}
 use Rattle.plan.specs.Check.{count_ok}
 use Rattle.checker.proofs.TestLaws.{test-and, test-all}
 use Rattle.checker.proofs.Counting.{count-told}

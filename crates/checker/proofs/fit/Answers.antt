@@ -2,7 +2,6 @@
 use mathlib.Core.Path.{sym, ◌∙◌}
 use borrow.Author.Tests.{ne_eqb}
 use Rattle.plan.specs.Check.{check_number, fit_number}
-use borrow.Author.Rules.{rules}
 use Rattle.checker.proofs.fit.Goals as goal
 
 pub returns-then-number-ne0 : goal.returns-then-number-ne0

@@ -1,9 +1,6 @@
-use mathlib.Core.Path.{◌≡◌}
-use Prim.Native.Nat.{◌-◌, ◌≤◌}
 use native.Mathlib.Omega.{arith}
 use borrow.Author.Rules.{rules}
 use Rattle.lists.specs.Seq.{all_below}
-use Rattle.plan.specs.Plan.{size}
 use Rattle.plan.specs.Check.{kind_ok}
 use Rattle.checker.proofs.TestLaws.{test-and, test-all}
 use Rattle.checker.proofs.kinds_ok.Goals as goal

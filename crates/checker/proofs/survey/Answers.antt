@@ -1,9 +1,6 @@
-use mathlib.Core.Path.{◌≡◌, sym, ◌∙◌, ap}
-use Prim.Native.Nat.{◌-◌}
+use mathlib.Core.Path.{sym, ◌∙◌, ap}
 use native.Mathlib.Omega.{arith}
 use lib.ListN.{length, length-replicate}
-use borrow.Author.Rules.{rules}
-use Rattle.lists.specs.Seq.{all_below}
 use Rattle.plan.specs.Check.{under_block, depth_ok}
 use Rattle.checker.proofs.TestLaws.{test-and, test-all, Turn}
 use Rattle.checker.proofs.Counting.{Counted, count_none, count-none-told, count_room, count_fits, count_turn, count-done}

@@ -1,15 +1,11 @@
 -- The loop has counted (`Counted` of proofs/Counting.antt), found depths (`Deepened` of proofs/Deepening.antt) and tested the nodes below v.
 -- Assumes nothing.
-use mathlib.Core.Path.{◌≡◌, sym, ◌∙◌, ap}
+use mathlib.Core.Path.{◌≡◌}
 use Prim.Native.Nat.{◌-◌}
-use native.Mathlib.Omega.{arith}
-use lib.ListN.{length, length-replicate}
-use borrow.Author.Rules.{rules}
 use Rattle.lists.specs.Seq.{all_below}
 use Rattle.plan.specs.Check.{under_block, depth_ok}
-use Rattle.checker.proofs.TestLaws.{test-and, test-all, Turn}
-use Rattle.checker.proofs.Counting.{Counted, count_none, count-none-told, count_room, count_fits, count_turn, count-done}
-use Rattle.checker.proofs.Deepening.{Deepened, deep-root, deep-root-told, deep_room, deep-fits, deep-told, deep-turn, deep-done}
+use Rattle.checker.proofs.Counting.{Counted}
+use Rattle.checker.proofs.Deepening.{Deepened}
 use Rattle.checker.proofs.survey.Given as goal
 
 abbrev pub invariant-loop-v : goal.invariant-loop-v

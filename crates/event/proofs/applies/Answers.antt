@@ -4,7 +4,6 @@ use borrow.Author.Tests.{lt-ltb}
 use Rattle.plan.specs.Plan.{in_xor, kind}
 use Rattle.plan.proofs.KindLaws.{above-byte}
 use Rattle.event.specs.Event.{applies}
-use borrow.Author.Rules.{rules}
 use Rattle.event.proofs.applies.Goals as goal
 
 pub returns : goal.returns

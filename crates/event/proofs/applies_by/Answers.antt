@@ -1,11 +1,7 @@
 -- One law for each arm over the code, and in it the kind that is looked for or another. Assumes nothing.
-use mathlib.Core.Path.{◌≡◌, sym, ◌∙◌}
-use mathlib.Core.Logic.{⊎_elim}
+use mathlib.Core.Path.{sym, ◌∙◌}
 use native.Mathlib.Omega.{arith}
 use borrow.Author.Tests.{eq-eqb, ne_eqb}
-use lib.Dec.{eqb}
-use Rattle.plan.specs.Plan.{kind_of, xor, is_kind}
-use Rattle.event.specs.Event.{code_of, applies_by}
 use Rattle.event.proofs.CodeLaws.{applies-start, applies-end, applies-offer, applies-choice, applies-answer}
 use Rattle.event.proofs.applies_by.Goals as goal
 use Rattle.event.proofs.applies_by.Goals.{in-2-1, in_default+else-code-lt1+else-code-lt5+else-code-lt7+then-code-lt9}

@@ -2,10 +2,8 @@
 use mathlib.Core.Path.{◌≡◌, sym, ◌∙◌}
 use mathlib.Core.Bool.{true}
 use native.Mathlib.Omega.{arith}
-use borrow.Author.Tests.{not-true, not-false}
 use Rattle.event.specs.Event.{known}
 use Rattle.event.proofs.ValidLaws.{known-told, fault-unsited, fault-unknown, fault-inapplicable, fault-none}
-use borrow.Author.Rules.{rules}
 use Rattle.event.proofs.fault.Goals as goal
 use Rattle.event.proofs.fault.Lts
 use Rattle.event.proofs.fault.Tie

@@ -2,7 +2,6 @@
 use borrow.Author.Tests.{le-leb, lt-leb}
 use Rattle.event.specs.Event.{is_code}
 use Rattle.event.specs.Bit.{weight, has_bit}
-use borrow.Author.Rules.{rules}
 use Rattle.event.proofs.has_bit.Goals as goal
 
 pub returns-then-code-lt1 : goal.returns-then-code-lt1

@@ -2,7 +2,6 @@
 use mathlib.Core.Path.{sym, ◌∙◌}
 use Rattle.event.specs.Site.{host_of}
 use Rattle.event.proofs.CodeLaws.{host-own, host-pick}
-use borrow.Author.Rules.{rules}
 use Rattle.event.proofs.host.Goals as goal
 
 pub returns-then-code-eq7 : goal.returns-then-code-eq7

@@ -1,7 +1,6 @@
 --  Assumes nothing.
 use borrow.Author.Tests.{le-leb, lt-leb}
 use Rattle.event.specs.Event.{is_code, known}
-use borrow.Author.Rules.{rules}
 use Rattle.event.proofs.known.Goals as goal
 
 pub returns-then-code-lt1 : goal.returns-then-code-lt1

@@ -3,7 +3,6 @@ use mathlib.Core.Path.{◌≡◌, sym, ◌∙◌}
 use Rattle.plan.specs.Check.{fit_number}
 use Rattle.plan.proofs.Main.{fit-exact}
 use Rattle.event.proofs.ValidLaws.{invalid-fit, invalid-fault}
-use borrow.Author.Rules.{rules}
 use Rattle.event.proofs.validate.Goals as goal
 use Rattle.event.proofs.validate.Lts
 use Rattle.event.proofs.validate.Tie

@@ -5,7 +5,6 @@ use borrow.Author.Tests.{le-leb, lt-leb}
 use Rattle.event.specs.Event.{is_code}
 use Rattle.event.specs.Bit.{has_bit, with_bit}
 use Rattle.event.proofs.BitLaws.{with-fits, shift-weight}
-use borrow.Author.Rules.{rules}
 use Rattle.event.proofs.with_bit.Goals as goal
 use Rattle.event.proofs.with_bit.Lts
 use Rattle.event.proofs.with_bit.Tie

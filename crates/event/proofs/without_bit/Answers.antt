@@ -3,10 +3,8 @@ use mathlib.Core.Path.{◌≡◌, sym, ◌∙◌}
 use mathlib.Core.Bool.{true}
 use Prim.Native.Nat.{◌*◌, ◌-◌, ◌^◌, ◌%◌, ◌≤◌}
 use native.Mathlib.Omega.{arith}
-use borrow.Author.Tests.{not-true, not-false}
 use Rattle.event.specs.Bit.{weight, has_bit, without_bit}
 use Rattle.event.proofs.BitLaws.{bit-code, shift-weight, bit-weight}
-use borrow.Author.Rules.{rules}
 use Rattle.event.proofs.without_bit.Goals as goal
 use Rattle.event.proofs.without_bit.Lts
 use Rattle.event.proofs.without_bit.Tie

@@ -1,7 +1,6 @@
 use mathlib.Core.Path.{◌≡◌, subst}
 use Prim.Native.Nat.{◌+◌, ◌-◌}
 use native.Mathlib.Omega.{arith}
-use borrow.Author.Rules.{rules}
 use Rattle.plan.specs.Plan.{parent}
 use Rattle.links.proofs.LinkLaws.{Linking, LinkTurn, link-none, link-below, link-small, link-turn, link-done}
 use Rattle.links.proofs.link_all.Goals as goal

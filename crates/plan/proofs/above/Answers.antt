@@ -1,5 +1,5 @@
-use Rattle.std.proofs.Common.{rules, ◌≡◌, ◌∙◌}
-use Rattle.plan.specs.Plan.{size, kind_byte, parent, above_byte}
+use Rattle.std.proofs.Common.{◌∙◌}
+use Rattle.plan.specs.Plan.{above_byte}
 use Rattle.std.proofs.Common.{ne_eqb}
 use Rattle.plan.proofs.above.Goals as goal
 

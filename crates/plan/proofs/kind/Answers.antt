@@ -1,5 +1,5 @@
 use Rattle.std.proofs.Common.{rules}
-use Rattle.plan.specs.Plan.{size, kind_byte, parent, above_byte}
+use Rattle.plan.specs.Plan.{size, kind_byte, parent}
 use Rattle.plan.proofs.kind.Goals as goal
 
 pub returns : goal.returns
