@@ -1,0 +1,6 @@
+-- Assumes nothing.
+use mathlib.Core.Path.{◌∙◌}
+use Rattle.central.proofs.byte_of.Goals as goal
+
+pub returns : goal.returns
+returns c = c.byte_at.ensures ∙ rw c.wide.ensures
