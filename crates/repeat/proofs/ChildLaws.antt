@@ -15,7 +15,7 @@ use Rattle.plan.proofs.AcceptedLaws.{accepted-ordered}
 use Rattle.plan.proofs.Exact.{none_left}
 use Rattle.links.specs.Links.{led_to, Linked}
 use Rattle.links.proofs.LinkLaws.{led-none, led-some, first-child, led-all, led_on}
-use Rattle.trees.specs.Tree.{tree, trees_of, trees_below, tree_at}
+use Rattle.trees.specs.Tree.{trees_of, trees_below, tree_at}
 use Rattle.trees.proofs.TreeLaws.{trees-step}
 use Rattle.trees.proofs.RenumberLaws.{below-few}
 use Rattle.placing.specs.Place.{Placeable}
