@@ -8,7 +8,7 @@ use lib.ListN.{get_or-eq_default, get_or, length}
 use borrow.Author.Tests.{le-ltb, lt-ltb, ltb-false, ltb-true}
 use native.Mathlib.Omega.{arith}
 use Rattle.lists.specs.Seq.{any, keep, table, earlier}
-use Rattle.lists.specs.Member.{In, here, there, Rising, next}
+use Rattle.lists.specs.Member.{In, here, there, Rising, next, end}
 use Rattle.lists.proofs.Logic.{cases, no_bool, either, parts, clash, decided}
 use Rattle.lists.proofs.Members.{rising-above}
 use Rattle.lists.proofs.Table.{table-length, table_at}
@@ -64,6 +64,7 @@ place_none f k (c ∷ cs) e =
 place_at_lem : (f : ℕ → Bool) (k c : ℕ) {d : ℕ} {cs : List ℕ} → Rising d cs → In c cs → f c ≡ true → ((x : ℕ) → In x cs → f x ≡ true → x ≡ c) →
     place_from f k cs ≡ suc (k + length (earlier cs c))
 unfolding place_from earlier keep
+place_at_lem f k c (end {d = d}) i e only = elim i [ ]
 place_at_lem f k c (next {c = y} {cs = cs} h r) i e only = cases (decided (f y))
     (λ t. let q : y ≡ c = only y (here refl) t in
     let z : length (earlier cs c) ≡ 0 = ap length (earlier-none c (omega arith) r) in

@@ -5,7 +5,6 @@ use borrow.Author.Tests.{not-true}
 use Rattle.lists.specs.Seq.{all}
 use Rattle.lists.proofs.Logic.{no_bool}
 use Rattle.lists.proofs.Members.{all-at}
-use Rattle.event.specs.Event.{at}
 use Rattle.event.proofs.BitLaws.{beq-true}
 use Rattle.central.specs.Mark.{Mark, idle, running, offered, committed, failed, turned_down, mark_number, is_mark}
 use Rattle.central.proofs.MarkLaws.{marks, in-marks}

@@ -14,7 +14,7 @@ use Rattle.lists.proofs.Members.{any-by, in-up}
 use Rattle.lists.proofs.Table.{up-length}
 use Rattle.plan.specs.Plan.{size, kind, parent, children, in_xor}
 use Rattle.plan.proofs.PlanLaws.{child-in}
-use Rattle.event.specs.Event.{Code, start, offer, commit, abort, answered-yes, answered-no, pick, down, code_number, same_code, Event, at, applies_by, applies}
+use Rattle.event.specs.Event.{Code, start, offer, commit, abort, answered-yes, answered-no, pick, down, code_number, same_code, Event, applies_by, applies}
 use Rattle.event.proofs.CodeLaws.{codes}
 use Rattle.central.specs.Mark.{Mark, idle, running, offered, committed, failed, turned_down, mark_number, is_mark}
 use Rattle.central.specs.Central.{Answer, none, said-yes, said-no, Central, fresh, mark_after, answer_after, picked_after, after, is_yes, is_no, allowed_by, allowed, run_from, is_run, reaches}

@@ -15,7 +15,6 @@ use Rattle.plan.specs.Plan.{Kind, task, serial, and, or, xor, contingency, condi
 use Rattle.plan.specs.Check.{Accepted}
 use Rattle.plan.proofs.PlanLaws.{rising-children}
 use Rattle.plan.proofs.AcceptedLaws.{child-between}
-use Rattle.event.specs.Event.{at}
 use Rattle.central.specs.Mark.{Mark, idle, running, offered, committed, failed, turned_down, mark_number, is_mark}
 use Rattle.central.specs.Central.{said-yes, said-no, Central, is_yes, is_no, marked, started, reached_by, of_branch, finishes_by, fails_by}
 use Rattle.runs.specs.Claims.{Stuck, ended}

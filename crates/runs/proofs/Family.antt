@@ -9,7 +9,7 @@ use lib.ListN.{length}
 use borrow.Author.Tests.{eqb-false, eqb-true, ne_eqb}
 use native.Mathlib.Omega.{arith}
 use Rattle.lists.specs.Seq.{all, head_or, last_or, earlier}
-use Rattle.lists.specs.Member.{In, here, there, Rising, next}
+use Rattle.lists.specs.Member.{In, here, there, Rising, next, end}
 use Rattle.lists.proofs.Logic.{cases, same_bool, clash, decided}
 use Rattle.lists.proofs.Members.{all-at, all-by, rising-above}
 use Rattle.lists.proofs.Points.{in-earlier, earlier-in, last-member, last-greatest}
@@ -21,6 +21,7 @@ use Rattle.pass.specs.Pass.{goes}
 
 pub first-least : {d : ℕ} {cs : List ℕ} {v c : ℕ} → Rising d cs → is_first cs v ≡ true → In c cs → v ≤ c
 unfolding is_first head_or
+first-least {d = d} {v = v} {c = c} end e x7 = elim x7 [ ]
 first-least {v = v} (next {c = a} h r) e (here k) = let q = eqb-true a v e in omega arith
 first-least {v = v} (next {c = a} h r) e (there i) = let q = eqb-true a v e in let k = rising-above r i in omega arith
 
@@ -32,6 +33,7 @@ pub record Before (cs : List ℕ) (v b : ℕ) : Type 0 where
 
 before-from : {d : ℕ} {cs : List ℕ} {v : ℕ} → Rising d cs → In v cs → Before (d ∷ cs) v (before_in d cs v)
 unfolding before_in
+before-from {v = v} (end {d = d}) i = elim i [ ]
 before-from {d} {v = v} (next {c = a} {cs = cs} h r) i = go (eqb a v) refl (before-from r) i
   where
     most-here : a ≡ v → (c : ℕ) → In c (d ∷ a ∷ cs) → c < v → c ≤ d
@@ -54,6 +56,7 @@ before-from {d} {v = v} (next {c = a} {cs = cs} h r) i = go (eqb a v) refl (befo
 
 pub before_of : {d : ℕ} {cs : List ℕ} {v : ℕ} → Rising d cs → In v cs → is_first cs v ≡ false → Before cs v (before_in v cs v)
 unfolding before_in is_first head_or
+before_of {d = d} {v = v} end i e = elim i [ ]
 before_of {v = v} (next {c = a} {cs = cs} h r) i e = rw e (go i)
   where
     go : In v (a ∷ cs) → Before (a ∷ cs) v (before_in a cs v)

@@ -12,7 +12,7 @@ use Rattle.lists.proofs.Logic.{cases, same_bool, either, parts}
 use Rattle.lists.proofs.Members.{in-up}
 use Rattle.plan.specs.Plan.{size, kind, parent, in_xor}
 use Rattle.plan.specs.Check.{Accepted}
-use Rattle.event.specs.Event.{Code, start, offer, commit, abort, answered-yes, answered-no, pick, down, Event, at, same, among, applies_by, applies}
+use Rattle.event.specs.Event.{Code, start, offer, commit, abort, answered-yes, answered-no, pick, down, Event, same, among, applies_by, applies}
 use Rattle.event.specs.Site.{host_by, host_of, Layout, Housed, site_of}
 use Rattle.central.specs.Central.{fresh, allowed, run_from, is_run, reaches}
 use Rattle.runs.proofs.Said.{same-event, same_self}
@@ -69,13 +69,13 @@ module _ (p : List ℕ) (lay : Layout) where
   unfolding moved relayed learn
   relay-heard rows e q l a h = rw (a, lt-ltb q lay.rows l, h, eq-eqb q q refl, same_self e)
 
-  relays-heard : (rows : ℕ → Event → Bool) (e : Event) {q : ℕ} {qs : List ℕ} → In q qs → q < lay.rows → applies p e ≡ true → rows (site_of p lay e) e ≡ true →
+  relays-heard : {q : ℕ} {qs : List ℕ} (rows : ℕ → Event → Bool) (e : Event) → In q qs → q < lay.rows → applies p e ≡ true → rows (site_of p lay e) e ≡ true →
       moved_all p lay rows (map (relay e) qs) q e ≡ true
   unfolding moved_all
-  relays-heard rows e {q} (here {y = y} {xs = qs} i) l a h =
+  relays-heard {q} rows e (here {y = y} {xs = qs} i) l a h =
       steps-keep (moved p lay rows (relay e y)) (map (relay e) qs) q e
       (subst (λ (r : ℕ). moved p lay rows (relay e r) q e ≡ true) i (relay-heard rows e q l a h))
-  relays-heard rows e {q} (there {y = y} {xs = qs} i) l a h =
+  relays-heard {q} rows e (there {y = y} {xs = qs} i) l a h =
       relays-heard (moved p lay rows (relay e y)) e i l a (step_keeps rows (relay e y) (site_of p lay e) e h)
 
 -- the host of an event that applies is in the plan

@@ -1,5 +1,4 @@
 -- The theorems of this crate: the claims of specs/Claims.antt. Assumes nothing.
-use Rattle.event.specs.Event.{at}
 use Rattle.central.specs.Central.{fresh, reaches}
 use Rattle.runs.specs.Claims.{GuardsFollowRule, FiveEvents, RunsEnd, StuckEnded, StuckIsPass, AnswersAgree}
 use Rattle.runs.proofs.Said.{happened}

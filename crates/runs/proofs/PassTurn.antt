@@ -18,7 +18,6 @@ use Rattle.plan.specs.Plan.{Kind, task, serial, and, or, xor, contingency, condi
 use Rattle.plan.specs.Check.{Accepted}
 use Rattle.plan.proofs.KindLaws.{same_kind}
 use Rattle.plan.proofs.PlanLaws.{rising-children, child-of}
-use Rattle.event.specs.Event.{at, same}
 use Rattle.central.specs.Mark.{committed, failed, turned_down, mark_number, is_mark}
 use Rattle.central.specs.Central.{said-yes, said-no, Central, is_yes, is_no, marked, started, reached_by}
 use Rattle.pass.specs.Pass.{Settled, Walked, goes_by, goes, good_mark, child_mark, child_settled, meet_by, meet, walk, unwalked}

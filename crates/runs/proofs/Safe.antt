@@ -26,6 +26,13 @@ use Rattle.runs.proofs.Net.{Move, occur, relay, learn, passes, relayed, moved, p
 -- what bars an event happens at the event's own site
 bars-host : (p : List ℕ) (c : Code) (v : ℕ) {f : Event} → In f (bars_by p c v) → host_of p f ≡ host_by c v (parent p v)
 unfolding bars_by host_of host_by
+bars-host p abort v {f = f} (there (there (there x13))) = elim x13 [ ]
+bars-host p answered-no v {f = f} (there (there x12)) = elim x12 [ ]
+bars-host p answered-yes v {f = f} (there (there x11)) = elim x11 [ ]
+bars-host p commit v {f = f} (there (there x9)) = elim x9 [ ]
+bars-host p down v {f = f} (there x10) = elim x10 [ ]
+bars-host p offer v {f = f} (there (there x8)) = elim x8 [ ]
+bars-host p start v {f = f} (there x4) = elim x4 [ ]
 bars-host p start v (here q) = ap (host_of p) q
 bars-host p offer v (here q) = ap (host_of p) q
 bars-host p offer v (there (here q)) = ap (host_of p) q
