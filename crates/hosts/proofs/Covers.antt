@@ -102,11 +102,11 @@ module _ (p : List ℕ) (ok : Accepted p) (lay : Layout) (housed : Housed p lay)
   follow es rows st alike (event code node ∷ ts) =
       let x = try code node (site_of p lay (event_of code node)) in
       let k = try-keeps es rows st alike code node in
-      follow-on es rows st alike x ts _ k (follow _ (acted p rows x) _ (did p ok lay housed es rows st alike x k).after ts)
+      follow-on es rows st alike x ts _ k (follow (es ++ passed_of (step_for x) (action_number p rows x)) (acted p rows x) (simulate p lay st (step_for x)).state (did p ok lay housed es rows st alike x k).after ts)
   follow es rows st alike (message code node q ∷ ts) = cases (decided (eqb (step_number p lay st (message code node q)) 0))
       (λ z. let x = send code node q in
       let k = send-keeps es rows st alike code node q z in
-      rw z (follow-on es rows st alike x ts _ k (follow _ (acted p rows x) _ (did p ok lay housed es rows st alike x k).after ts)))
+      rw z (follow-on es rows st alike x ts _ k (follow (es ++ passed_of (step_for x) (action_number p rows x)) (acted p rows x) (simulate p lay st (step_for x)).state (did p ok lay housed es rows st alike x k).after ts)))
       (λ z. let s : (simulate p lay st (message code node q)).state ≡ st = refused-leaves p lay st (message code node q) (eqb-false _ 0 z) in
       let r = follow es rows st alike ts in
       rw (z, s) (record { kept = r.kept; events = rw s r.events; same = rw s r.same }))
