@@ -7,7 +7,7 @@ ghost use Rattle.journal.specs.Journal.{no_entry};
 
 // A step that passed: its code, its node, the site that was told (255: the event happened), and 1 if it set a bit, 0 if that was set before.
 #[repr(C)]
-#[derive(Drop)]
+#[derive(Clone, Copy)]
 pub struct Entry {
     pub code: u8,
     pub node: u8,
