@@ -1,0 +1,9 @@
+-- The record by the common table. Assumes nothing.
+use mathlib.Core.Path.{sym, ap, ◌∙◌}
+use Rattle.simulation.specs.Run.{record_by_into}
+use Rattle.simulation.proofs.record.Goals as goal
+
+pub returns : goal.returns
+returns c =
+    let s = c.args in
+    ap (λ tab. record_by_into s.plan.now tab s.state.now s.marks.now s.classes.now) (sym c.common_table-tab.ensures) ∙ c.record_by.ensures
