@@ -1,7 +1,7 @@
 -- The load, step by step. Assumes nothing.
-use Rattle.std.proofs.Common.{◌≡◌, ℕ, zero, suc, ◌+◌, ◌*◌, ◌/◌, ◌%◌, ◌<◌, ◌≤◌, Bool, true, false, cond, eqb, ◌⊎◌, List, ◌++◌, length, get_or, sym, refl, ap, ◌∙◌, inl, inr, append_assoc, mod-lt, arith, length-append}
+use Rattle.std.proofs.Common.{◌≡◌, ℕ, zero, suc, ◌+◌, ◌*◌, ◌%◌, ◌<◌, Bool, true, false, cond, eqb, ◌⊎◌, List, ◌++◌, length, get_or, sym, refl, ap, inl, inr, append_assoc, mod-lt, arith, length-append}
 use Rattle.workload.specs.Load.{moved, after, draw, step_at, load}
-use Rattle.workload.specs.Claim.{IsFrame, Frames, LoadGoesOn, LoadFrames}
+use Rattle.workload.specs.Claim.{IsFrame, LoadGoesOn, LoadFrames}
 
 after_on : (j k s : ℕ) → after (j + k) s ≡ after k (after j s)
 unfolding after

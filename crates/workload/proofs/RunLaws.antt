@@ -1,8 +1,7 @@
 -- A simulation takes a load as it is. Assumes nothing.
-use Rattle.std.proofs.Common.{◌≡◌, ℕ, ◌*◌, ◌/◌, ◌%◌, true, cond, not, ◌&&◌, eqb, List, length, sym, refl, ap, ◌∙◌, arith, eq-eqb}
+use Rattle.std.proofs.Common.{◌≡◌, ◌*◌, ◌/◌, ◌%◌, true, eqb, length, refl, arith, eq-eqb}
 use Rattle.lists.proofs.Logic.{and-join}
 use Rattle.plan.specs.Plan.{size}
-use Rattle.plan.specs.Check.{fit_number, Accepted}
 use Rattle.plan.proofs.Main.{fit-exact}
 use Rattle.event.specs.Site.{own}
 use Rattle.job.specs.Simulation.{state_fits}

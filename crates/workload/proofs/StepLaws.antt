@@ -1,5 +1,5 @@
 -- One step written, and the loop over the steps. Assumes nothing.
-use Rattle.std.proofs.Common.{◌≡◌, ℕ, zero, suc, ◌+◌, ◌-◌, ◌*◌, ◌%◌, ◌<◌, ◌≤◌, cond, eqb, List, [], ◌∷◌, ◌++◌, length, set, sym, refl, ap, ◌∙◌, append-nil, arith, drop_of_length-le}
+use Rattle.std.proofs.Common.{◌≡◌, ℕ, suc, ◌+◌, ◌-◌, ◌*◌, ◌%◌, ◌<◌, ◌≤◌, cond, eqb, List, [], ◌∷◌, ◌++◌, length, set, refl, ap, ◌∙◌, append-nil, arith, drop_of_length-le}
 use Rattle.lists.specs.Put.{Put}
 use Rattle.lists.proofs.PutLaws.{put_one, put_two, put-append, put_front_lem, Left, left-all, left-none, left-put}
 use Rattle.workload.specs.Load.{moved, after, draw, step_at, load}
