@@ -23,7 +23,7 @@ pkgconfig = $(libdir)/pkgconfig
 cmakedir = $(libdir)/cmake/vulcedar
 need = @sh packaging/need.sh
 also =
-proved = $(shell find crates -name '*.rt' -o -name '*.antt') crates.txt
+proved = $(shell find crates -name out -prune -o -name '*.rt' -print -o -name '*.antt' -print) crates.txt
 
 .PHONY: all ready demo check bench install uninstall clean help
 .DELETE_ON_ERROR:
@@ -92,8 +92,8 @@ uninstall: ## removes what install put there; give the same directories
 	rm -f '$(DESTDIR)$(pkgconfig)/vulcedar.pc' '$(DESTDIR)$(cmakedir)/vulcedarConfig.cmake' '$(DESTDIR)$(cmakedir)/vulcedarConfigVersion.cmake'
 	rmdir '$(DESTDIR)$(cmakedir)' 2> /dev/null || true
 
-clean: ## removes target/, the proofs' results too
-	rm -rf target
+clean: ## removes target/, and the proofs' results beside the crates
+	rm -rf target crates/*/out
 
 help: ## this list
 	@sed -n 's/^\([a-z]*\):.*## \(.*\)/make \1\t\2/p' Makefile | expand -t 16

@@ -26,7 +26,7 @@ FNR == 1 { comment = ""; above = 1 }
 /^(unfoldable |abbrev )?pub .* : / && comment !~ /[A-OQRSTU][0-9]/ { print FILENAME ": " $0 }
 AWK
 while IFS= read -r line; do fault "a definition without a rule: $line"; done < <(
-  find crates -path '*/specs/*.antt' ! -name Lib.antt ! -path 'crates/lists/*' ! -path 'crates/cases/*' -exec awk -f "$work/ruleless.awk" {} \; | cut -c 1-120
+  find crates -path '*/specs/*.antt' ! -path '*/out/*' ! -name Lib.antt ! -path 'crates/lists/*' ! -path 'crates/cases/*' -exec awk -f "$work/ruleless.awk" {} \; | cut -c 1-120
 )
 
 # every line of a claim that THEOREM.md quotes stands in a specs file
@@ -44,10 +44,12 @@ sed 's/#.*//' crates.txt | sed -n 's/^\([a-z_0-9]*\)\( staticlib\)\?:.*/\1/p' | 
 sed -n 's/^ \([a-z_0-9]*\) .*\(no code\|library\|program\).*/\1/p' docs/ARCHITECTURE.md | sort > "$work/drawn"
 for crate in $(comm -3 "$work/crates" "$work/drawn"); do fault "the crate $crate is in one of crates.txt and ARCHITECTURE.md alone"; done
 
-# the archive exports what the header declares
+# the archive exports what the header declares, each function by the one of its name in a crate *_exports
 grep -ohE 'fn vulcedar_[a-z_]+' crates/*_exports/src/*.rt | sed 's/fn //' | sort > "$work/exported"
+grep -ohE 'fn vulcedar_[a-z_]+' crates/vulcedar/src/*.rt | sed 's/fn //' | sort > "$work/archived"
 grep -oE '^uint32_t vulcedar_[a-z_]+\(' include/vulcedar.h | sed 's/uint32_t //; s/($//' | sort > "$work/declared"
 for call in $(comm -3 "$work/exported" "$work/declared"); do fault "$call is either exported or declared, not both"; done
+for call in $(comm -3 "$work/archived" "$work/declared"); do fault "$call is either in the archive or declared, not both"; done
 
 [ "$faults" = 0 ] || { echo "documents: $faults faults"; exit 1; }
 echo "documents: $(wc -l < "$work/rules") rules, $(wc -l < "$work/quoted") quoted lines, $(wc -l < "$work/paths") paths, $(wc -l < "$work/crates") crates and $(wc -l < "$work/declared") calls are as the documents say"
