@@ -1,0 +1,8 @@
+-- By the definition. Assumes nothing.
+use borrow.Author.Rules.{rules}
+use Rattle.merge.specs.Bytes.{byte_fits}
+use Rattle.merge.proofs.byte_fits.Goals as goal
+
+pub returns : goal.returns
+unfolding byte_fits
+returns c = search rules
