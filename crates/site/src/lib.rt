@@ -10,7 +10,7 @@ ghost use Rattle.site.specs.Verdict.{reported, report_of};
 ghost use Rattle.site.specs.Step.{stepped, decide, step_of, hear_of};
 
 // An event that passed, with its site and the rule behind its guard.
-#[derive(Drop)]
+#[derive(Clone, Copy)]
 pub struct PassedEvent {
     pub code: u8,
     pub node: u8,
@@ -20,7 +20,7 @@ pub struct PassedEvent {
 
 // Why a call is refused: it is invalid, with the number of the test that failed (1 to 9); the event is barred or its guard unmet, with the event's
 // site; or a message tells of what did not happen, which the simulation alone can know.
-#[derive(Drop)]
+#[derive(Clone, Copy)]
 pub enum Refusal {
     Invalid(u8),
     Barred(u8),
@@ -29,7 +29,7 @@ pub enum Refusal {
 }
 
 // The answer to a step or a message: the event passed, the message passed, or a refusal.
-#[derive(Drop)]
+#[derive(Clone, Copy)]
 pub enum Verdict {
     Passed(PassedEvent),
     Heard,
