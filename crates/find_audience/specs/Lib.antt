@@ -1,0 +1,2 @@
+-- Letters: p a plan, u v x nodes.
+pub mod Whom
