@@ -5,7 +5,8 @@ set -eu
 cd "$(dirname "$0")/.."
 sh packaging/need.sh rt ar
 whole=target/staticlib/libvulcedar.a
-(cd crates/vulcedar && rt lib)
+# the code is for any x86-64 processor
+(cd crates/vulcedar && rt lib --cpu x86-64)
 mkdir -p target/staticlib
 cp crates/vulcedar/out/libvulcedar.a "$whole"
 echo "archive: $whole has every function of include/vulcedar.h"
