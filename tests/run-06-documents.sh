@@ -9,12 +9,12 @@ fault() { echo "documents: $1"; faults=$((faults + 1)); }
 documents=(README.md docs/*.md tests/README.md)
 
 # each rule has one number, and each number that a definition, the header or a document names is a rule
-grep -oE '\*\*[A-OQRSTU][0-9]+\*\*' docs/RULES.md | tr -d '*' | sort > "$work/rules"
+grep -oE '\*\*[A-OQRSTUV][0-9]+\*\*' docs/RULES.md | tr -d '*' | sort > "$work/rules"
 for rule in $(uniq -d "$work/rules"); do fault "RULES.md has $rule twice"; done
 {
   grep -hE -- '--' crates/*/specs/*.antt | sed 's/^.*--//'
   cat include/vulcedar.h "${documents[@]}"
-} | grep -oE '\b[A-OQRSTU][0-9]+\b' | sort -u > "$work/named"
+} | grep -oE '\b[A-OQRSTUV][0-9]+\b' | sort -u > "$work/named"
 for rule in $(comm -23 "$work/named" <(sort -u "$work/rules")); do fault "$rule is named, and no rule has this number"; done
 
 # each definition names its rule in its comment, or stands under one that does; lists has none of the rules, cases none to promise
@@ -23,7 +23,7 @@ FNR == 1 { comment = ""; above = 1 }
 /^ *--/ { comment = above ? comment $0 : $0; above = 1; next }
 /^use / || /^ *$/ { next }
 { above = 0 }
-/^(unfoldable |abbrev )?pub .* : / && comment !~ /[A-OQRSTU][0-9]/ { print FILENAME ": " $0 }
+/^(unfoldable |abbrev )?pub .* : / && comment !~ /[A-OQRSTUV][0-9]/ { print FILENAME ": " $0 }
 AWK
 while IFS= read -r line; do fault "a definition without a rule: $line"; done < <(
   find crates -path '*/specs/*.antt' ! -path '*/out/*' ! -name Lib.antt ! -path 'crates/lists/*' ! -path 'crates/cases/*' -exec awk -f "$work/ruleless.awk" {} \; | cut -c 1-120
