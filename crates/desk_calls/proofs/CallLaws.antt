@@ -1,10 +1,10 @@
 -- The calls behind the preparation: refused by the check, refused for a length, and done on the plain plan with its tables. Assumes nothing.
 use mathlib.Core.Path.{◌≡◌, refl, sym, ◌∙◌, ap, subst}
-use mathlib.Core.Bool.{Bool, true, false, not, ◌&&◌}
+use mathlib.Core.Bool.{Bool, true, false, ◌&&◌}
 use mathlib.Core.List.{List}
 use Prim.Native.Nat.{ℕ, ◌*◌, ◌≤◌, ◌<◌}
 use native.Mathlib.Omega.{arith}
-use borrow.Author.Tests.{ne_eqb, eq-eqb, eqb-true, eqb-false, ltb-true, lt-ltb, le-leb, leb-true, not-false}
+use borrow.Author.Tests.{ne_eqb, eq-eqb, eqb-true, eqb-false, ltb-true, lt-ltb, le-leb, leb-true}
 use lib.Dec.{eqb, ltb, leb}
 use lib.ListN.{length, take, set}
 use lib.Seq.{set_out}
@@ -140,22 +140,20 @@ module _ (p : List ℕ) (rows : ℕ) (two home row : List ℕ) (s : Prepared p r
 
   -- the code's tests of the lengths, passed
   module _ (st : List ℕ) where
-    pub undo-tested : (k len : ℕ) → not (eqb (length st) (rows * n) && leb k len) ≡ false → (length st ≡ rows * n) × (k ≤ len)
-    undo-tested k len h = let t = not-false _ h in (eqb-true _ _ (and_left _ _ t), leb-true k len (and_right (eqb (length st) (rows * n)) _ t))
+    pub undo-tested : (k len : ℕ) → (eqb (length st) (rows * n) && leb k len) ≡ true → (length st ≡ rows * n) × (k ≤ len)
+    undo-tested k len t = (eqb-true _ _ (and_left _ _ t), leb-true k len (and_right (eqb (length st) (rows * n)) _ t))
 
-    pub keep-tested : (k len : ℕ) → not (eqb (length st) (rows * n) && ltb k len) ≡ false → (length st ≡ rows * n) × (k < len)
-    keep-tested k len h = let t = not-false _ h in (eqb-true _ _ (and_left _ _ t), ltb-true k len (and_right (eqb (length st) (rows * n)) _ t))
+    pub keep-tested : (k len : ℕ) → (eqb (length st) (rows * n) && ltb k len) ≡ true → (length st ≡ rows * n) × (k < len)
+    keep-tested k len t = (eqb-true _ _ (and_left _ _ t), ltb-true k len (and_right (eqb (length st) (rows * n)) _ t))
 
-    pub points-tested : (k len : ℕ) (b : Bool) → not (eqb (length st) (rows * n) && leb k len && b) ≡ false → (length st ≡ rows * n) × (k ≤ len) × (b ≡ true)
-    points-tested k len b h =
-        let t = not-false _ h in
-        let l = undo-tested k len (ap not (and_left (eqb (length st) (rows * n) && leb k len) b t)) in
+    pub points-tested : (k len : ℕ) (b : Bool) → (eqb (length st) (rows * n) && leb k len && b) ≡ true → (length st ≡ rows * n) × (k ≤ len) × (b ≡ true)
+    points-tested k len b t =
+        let l = undo-tested k len (and_left (eqb (length st) (rows * n) && leb k len) b t) in
         (l.0, l.1, and_right (eqb (length st) (rows * n) && leb k len) b t)
 
-    pub back-tested : (name : List ℕ) (k len : ℕ) (b : Bool) → not (eqb (length name) 8 && eqb (length st) (rows * n) && leb k len && b) ≡ false →
+    pub back-tested : (name : List ℕ) (k len : ℕ) (b : Bool) → (eqb (length name) 8 && eqb (length st) (rows * n) && leb k len && b) ≡ true →
         (length st ≡ rows * n) × (length name ≡ 8) × (k ≤ len) × (b ≡ true)
-    back-tested name k len b h =
-        let t = not-false _ h in
+    back-tested name k len b t =
         let l = and_left (eqb (length name) 8 && eqb (length st) (rows * n) && leb k len) b t in
         let m = and_left (eqb (length name) 8 && eqb (length st) (rows * n)) _ l in (
           eqb-true _ _ (and_right (eqb (length name) 8) _ m),
@@ -164,9 +162,9 @@ module _ (p : List ℕ) (rows : ℕ) (two home row : List ℕ) (s : Prepared p r
           and_right (eqb (length name) 8 && eqb (length st) (rows * n) && leb k len) b t,
         )
 
-    pub marks-tested : (m c : List ℕ) → not (eqb (length st) (rows * n) && eqb (length m) n && eqb (length c) n) ≡ false → (length st ≡ rows * n) × (length m ≡ n)
-    marks-tested m c h =
-        let l = and_left (eqb (length st) (rows * n) && eqb (length m) n) _ (not-false _ h) in
+    pub marks-tested : (m c : List ℕ) → (eqb (length st) (rows * n) && eqb (length m) n && eqb (length c) n) ≡ true → (length st ≡ rows * n) × (length m ≡ n)
+    marks-tested m c t =
+        let l = and_left (eqb (length st) (rows * n) && eqb (length m) n) _ t in
         (eqb-true _ _ (and_left _ _ l), eqb-true _ _ (and_right (eqb (length st) (rows * n)) _ l))
 
   -- REFUSED FOR A LENGTH
