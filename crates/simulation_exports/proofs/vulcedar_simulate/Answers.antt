@@ -1,0 +1,8 @@
+-- The parts of the contract's one value. Assumes nothing.
+use mathlib.Core.Path.{sym, ap, ◌∙◌}
+use Rattle.results.specs.Result.{of_verdict}
+use Rattle.simulation_exports.proofs.vulcedar_simulate.Goals as goal
+
+pub returns : goal.returns
+returns c = let e = sym c.simulate.ensures in
+    record { value = c.of_verdict.ensures ∙ ap (λ s. of_verdict s.verdict) e; state_after = ap (λ s. s.state) e }
