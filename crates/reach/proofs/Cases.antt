@@ -223,7 +223,7 @@ follows p c s i l e f k = record {
   inner = ltb-true 0 c i;
   later = ltb-true c s l;
   sibling = f ∙ sym e;
-  one_by_one_lem = subst (λ v. (kind p v ≡ serial) ⊎ (kind p v ≡ contingency)) (sym e) k;
+  one_by_one = subst (λ v. (kind p v ≡ serial) ⊎ (kind p v ≡ contingency)) (sym e) k;
 }
 
 -- in pairs, from task 2 to task 4
@@ -262,14 +262,14 @@ above-grandchild p u d c e f (up l b) = inr (above-child p u c f (subst (Under p
 record Behind (p : List ℕ) (c s : ℕ) : Type 0 where
   later : c < s
   sibling : parent p s ≡ 0
-  one_by_one_lem : (kind p 0 ≡ serial) ⊎ (kind p 0 ≡ contingency)
+  one_by_one : (kind p 0 ≡ serial) ⊎ (kind p 0 ≡ contingency)
 
 behind : (p : List ℕ) (c u s : ℕ) → parent p c ≡ 0 → Under p u c → Follows p u s → Behind p c s
 behind p c u s e x f = cases (above-child p u c e x)
     (λ q. record {
       later = subst (λ v. v < s) q f.later;
       sibling = f.sibling ∙ ap (parent p) q ∙ e;
-      one_by_one_lem = subst (λ v. (kind p v ≡ serial) ⊎ (kind p v ≡ contingency)) (ap (parent p) q ∙ e) f.one_by_one_lem;
+      one_by_one = subst (λ v. (kind p v ≡ serial) ⊎ (kind p v ≡ contingency)) (ap (parent p) q ∙ e) f.one_by_one;
     })
     (λ q. absurd (lower f.inner q))
   where
@@ -308,7 +308,7 @@ spared-before p t w ok l e pos before =
 -- siblings below a block of another kind
 spared-pair : (k : ℕ) → eqb (kind_number (kind (pair k) 0)) 2 ≡ false → eqb (kind_number (kind (pair k) 0)) 6 ≡ false → InReach (pair k) 1 2 → ⊥
 unfolding parent
-spared-pair k n2 n6 = spared (pair k) 1 2 refl (λ x. cases (above-child (pair k) 2 1 refl x) (λ q. omega arith) (λ q. omega arith)) (λ s b y. other b.one_by_one_lem)
+spared-pair k n2 n6 = spared (pair k) 1 2 refl (λ x. cases (above-child (pair k) 2 1 refl x) (λ q. omega arith) (λ q. omega arith)) (λ s b y. other b.one_by_one)
   where
     other : (kind (pair k) 0 ≡ serial) ⊎ (kind (pair k) 0 ≡ contingency) → ⊥
     other e = unfold kind_number in cases e (λ q. eqb-false _ 2 n2 (ap kind_number q)) (λ q. eqb-false _ 6 n6 (ap kind_number q))
@@ -318,7 +318,7 @@ picked : InReach P 3 4 → ⊥
 unfolding parent kind kind_of kind_byte
 picked (above x) = cases (above-grandchild P 4 3 2 refl refl x) (λ q. omega arith) (λ q. cases q (λ z. omega arith) (λ z. omega arith))
 picked (after u s x f y) = cases (above-grandchild P u 3 2 refl refl x)
-    (λ q. other (ap (parent P) q) f.one_by_one_lem)
+    (λ q. other (ap (parent P) q) f.one_by_one)
     (λ q. cases q (λ z. behind-xor s (behind P 2 u s refl (self z) f) (above-grandchild P s 4 2 refl refl y)) (λ z. let l = f.inner in omega arith))
   where
     other : parent P u ≡ parent P 3 → (kind P (parent P u) ≡ serial) ⊎ (kind P (parent P u) ≡ contingency) → ⊥

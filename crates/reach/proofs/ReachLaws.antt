@@ -102,7 +102,7 @@ module _ (p : List ℕ) (ok : Accepted p) (a b : List ℕ) (t : ℕ) (h : OneTas
             inner = cy.low;
             later = omega arith;
             sibling = (child-of p u i).of ∙ sym cy.of;
-            one_by_one_lem = one-by-one-kinds (kind p (parent p y)) (ap (λ z. one_by_one (kind p z)) cy.of ∙ f);
+            one_by_one = one-by-one-kinds (kind p (parent p y)) (ap (λ z. one_by_one (kind p z)) cy.of ∙ f);
           }
 
       beside : (pass_mark p a w ≡ pass_mark p b w) ⊎ InReach p t w

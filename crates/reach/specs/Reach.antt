@@ -17,7 +17,7 @@ pub record Follows (p : List ℕ) (u s : ℕ) : Type 0 where
   pub inner : 0 < u
   pub later : u < s
   pub sibling : parent p s ≡ parent p u
-  pub one_by_one_lem : (kind p (parent p u) ≡ serial) ⊎ (kind p (parent p u) ≡ contingency)
+  pub one_by_one : (kind p (parent p u) ≡ serial) ⊎ (kind p (parent p u) ≡ contingency)
 
 -- O2: w is in the reach of the task t: it is t or a block above it, or in the subtree of a node that follows one of these
 pub data InReach (p : List ℕ) (t : ℕ) : ℕ → Type 0 where
