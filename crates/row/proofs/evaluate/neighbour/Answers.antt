@@ -1,12 +1,25 @@
 -- The search for v itself, or for the root, which is nobody's child. Assumes nothing.
-use mathlib.Core.Path.{ap, ◌∙◌}
+use mathlib.Core.Path.{◌≡◌}
+use mathlib.Core.List.{List}
+use Prim.Native.Nat.{ℕ, ◌≤◌}
+use lib.Dec.{eqb}
+use borrow.Author.Tests.{eqb-true, eqb-false}
+use native.Mathlib.Omega.{arith}
+use Rattle.lists.proofs.Logic.{cases, decided}
 use Rattle.plan.specs.Plan.{children}
+use Rattle.event.specs.Event.{code_of}
 use Rattle.guard.specs.Guard.{before_in}
+use Rattle.guard.specs.Family.{family_parent, left_out, family, neighbour}
 use Rattle.row.proofs.EvaluateLaws.{neighbour-before, neighbour-last}
 use Rattle.row.proofs.evaluate.neighbour.Goals as goal
-use Rattle.row.proofs.evaluate.neighbour.Goals.{then-code-eq1, else-code-eq1}
+
+-- both, by where the search stops
+neighbour-stop : (p : List ℕ) (code v : ℕ) {u r stop : ℕ} → u ≡ family_parent p (code_of code) v → 1 ≤ code → code ≤ 4 → r ≡ before_in v (children p u) stop →
+    (code ≡ 1 → stop ≡ v) → ((code ≡ 1 → ⊥) → stop ≡ 0) → r ≡ neighbour (code_of code) v (family p (family_parent p (code_of code) v) (left_out (code_of code) v))
+neighbour-stop p code v is low high h s t = cases (decided (eqb code 1))
+    (λ f. let e = eqb-true code 1 f in neighbour-before p code v is low high e (s e) h)
+    (λ f. let n = eqb-false code 1 f in neighbour-last p code v is low high n (t n) h)
 
 pub returns : goal.returns
-returns c = λ low high. let w = c.before.before.before in
-    let h = c.before_or_last.ensures ∙ ap (λ y. before_in y (children w.args.plan.now w.family_parent.result) w.if-code-eq1.stop) c.wide.ensures in
-    elim w.if-code-eq1.branch [ then-code-eq1 x ↦ neighbour-before _ _ _ w.family_parent.ensures low high x.if-code-eq1.true (x.stop-is ∙ x.wide-stop.ensures) h | else-code-eq1 x ↦ neighbour-last _ _ _ w.family_parent.ensures low high x.if-code-eq1.false x.stop-is h ]
+returns c = λ low high.
+    neighbour-stop _ _ _ c.family_parent.ensures low high (rw c.wide.ensures at c.before_or_last.ensures) (λ e. grind arith) (λ n. grind arith)
