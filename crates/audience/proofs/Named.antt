@@ -11,7 +11,9 @@ use Rattle.lists.specs.Seq.{head_or}
 use Rattle.lists.specs.Member.{In, here, there}
 use Rattle.lists.proofs.Logic.{cases, decided, parts}
 use Rattle.lists.proofs.Members.{in-keep}
-use Rattle.plan.specs.Plan.{Kind, task, serial, and, or, xor, contingency, conditional, waiting, kind_number, is_kind, size, kind, parent, children, others, above, in_xor}
+use Rattle.plan.specs.Plan.{kind_number, is_kind, size, kind, parent, children, others, above, in_xor}
+use Rattle.plan.specs.declared.kinds.Kind.{Kind}
+use Rattle.plan.specs.declared.kinds.Kind.TheVariants.{Task as task, Serial as serial, And as and, Or as or, Xor as xor, Contingency as contingency, Conditional as conditional, Waiting as waiting}
 use Rattle.plan.specs.Check.{Accepted}
 use Rattle.plan.proofs.PlanLaws.{Child, child-of, child-in, rising-children}
 use Rattle.plan.proofs.AcceptedLaws.{parent_in, parent-child}

@@ -14,7 +14,9 @@ use Rattle.lists.specs.Member.{In}
 use Rattle.lists.proofs.Logic.{cases, decided, and_left, and_right, and-join, no_bool, parts, clash}
 use Rattle.lists.proofs.Members.{any-by, in-up, up_in}
 use Rattle.lists.proofs.Points.{any-grows}
-use Rattle.plan.specs.Plan.{Kind, serial, xor, contingency, conditional, kind_number, is_kind, size, kind, parent, children_below, children, above, in_xor}
+use Rattle.plan.specs.Plan.{kind_number, is_kind, size, kind, parent, children_below, children, above, in_xor}
+use Rattle.plan.specs.declared.kinds.Kind.{Kind}
+use Rattle.plan.specs.declared.kinds.Kind.TheVariants.{Serial as serial, Xor as xor, Contingency as contingency, Conditional as conditional}
 use Rattle.plan.specs.Check.{Accepted}
 use Rattle.plan.proofs.PlanLaws.{child-in}
 use Rattle.event.specs.Event.{Code, start, offer, commit, abort, answered-yes, answered-no, pick, down, code_number, code_of, same_code, Event, at, applies_by, applies}

@@ -1,7 +1,9 @@
 -- The nodes whose sites are told of an event, in closed form (rule V6). Definitions only.
 use Rattle.std.specs.Prelude.{cond, List, [], ◌∷◌, ℕ, ltb, take, drop}
 use Rattle.lists.specs.Seq.{keep, head_or}
-use Rattle.plan.specs.Plan.{Kind, task, serial, and, or, xor, contingency, conditional, waiting, is_kind, kind, parent, children, above}
+use Rattle.plan.specs.Plan.{is_kind, kind, parent, children, above}
+use Rattle.plan.specs.declared.kinds.Kind.{Kind}
+use Rattle.plan.specs.declared.kinds.Kind.TheVariants.{Task as task, Serial as serial, And as and, Or as or, Xor as xor, Contingency as contingency, Conditional as conditional, Waiting as waiting}
 use Rattle.event.specs.Event.{Code, start, offer, commit, abort, answered-yes, answered-no, pick, down, Event}
 
 -- V6: those of cs above v

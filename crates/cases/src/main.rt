@@ -18,81 +18,80 @@ mod item;
 mod say;
 
 ghost use Rattle.std.specs.Prelude.{◌≤◌, length};
-ghost use Rattle.cases.specs.Table.{Begins};
 
-const STDIN: i32 = 0;
+use std::io;
+use std::io::Write;
 
-// The call of the line at a place, on a plan and handed bytes; a and b are lent as their lines say.
-fn tried(text: &[u8], at: usize, as_a: usize, as_b: usize, plan: &[u8], c: &[u8])
-    requires begins { Begins at text.now }
-    requires begins_2 { Begins as_a text.now }
-    requires begins_3 { Begins as_b text.now }
-{
-    let mut a = io::large_buffer();
-    let mut b = io::buffer();
-    let m = item::fill(text, as_a, &mut a);
-    let n = item::fill(text, as_b, &mut b);
+// The last lines of the plan, of the bytes lent and of those handed over, each as the text from its beginning on; empty where there is none.
+#[derive(Clone, Copy)]
+struct Noted<'a> {
+    plan: &'a [u8],
+    a: &'a [u8],
+    b: &'a [u8],
+    c: &'a [u8],
+}
+
+// The call of a line, on a plan and handed bytes; a and b are lent as their lines say.
+fn tried<W: Write>(
+    out: &mut W,
+    line: &[u8],
+    noted: &Noted<'_>,
+    plan: &[u8],
+    c: &[u8],
+) -> io::Result<()> {
+    let mut a = [0u8; 65536];
+    let mut b = [0u8; 4096];
+    let m = item::fill(noted.a, &mut a);
+    let n = item::fill(noted.b, &mut b);
     let was_a = a;
     let was_b = b;
-    let result = calls::call(text, at, plan, c, &mut a[..m], &mut b[..n]);
-    say::answer(text, at, result);
-    say::lent(plan::byte_at(text, at), &was_a, &a, &was_b, &b);
+    let result = calls::call(line, plan, c, &mut a[..m], &mut b[..n]);
+    say::answer(out, line, result)?;
+    say::lent(out, plan::byte_at(line, 0), &was_a, &a, &was_b, &b)
 }
 
 // A case, by the lines noted for it.
-fn case(text: &[u8], at: usize, p: usize, a: usize, b: usize, c: usize)
-    requires begins { Begins at text.now }
-    requires begins_2 { Begins p text.now }
-    requires begins_3 { Begins a text.now }
-    requires begins_4 { Begins b text.now }
-    requires begins_5 { Begins c text.now }
-{
-    let mut plan = io::buffer();
-    let mut handed = io::large_buffer();
-    let n = item::fill(text, p, &mut plan);
-    let m = item::fill(text, c, &mut handed);
-    tried(text, at, a, b, &plan[..n], &handed[..m]);
-}
-
-// Where the last line of a letter begins.
-fn noted(text: &[u8], at: usize, letter: u8, before: usize) -> usize
-    requires begins { Begins at text.now }
-    requires begins_2 { Begins before text.now }
-    ensures { Begins result text.now }
-{
-    if plan::byte_at(text, at) == letter {
-        at
-    } else {
-        before
-    }
+fn case<W: Write>(out: &mut W, line: &[u8], noted: &Noted<'_>) -> io::Result<()> {
+    let mut plan = [0u8; 4096];
+    let mut handed = [0u8; 65536];
+    let n = item::fill(noted.plan, &mut plan);
+    let m = item::fill(noted.c, &mut handed);
+    tried(out, line, noted, &plan[..n], &handed[..m])
 }
 
 // Each line in turn: a heading is printed, a case is tried, and any other line is noted.
-fn lines(text: &[u8])
+fn lines<W: Write>(out: &mut W, text: &[u8]) -> io::Result<()>
     requires { length text.now ≤ 65536 }
 {
-    let end = text.len();
-    let mut p = end;
-    let mut a = end;
-    let mut b = end;
-    let mut c = end;
-    let mut at = 0;
-    while at < end {
-        p = noted(text, at, b'p', p);
-        a = noted(text, at, b'a', a);
-        b = noted(text, at, b'b', b);
-        c = noted(text, at, b'c', c);
-        match plan::byte_at(text, at) {
-            b'#' => say::heading(text, at),
-            b'A'..=b'Z' => case(text, at, p, a, b, c),
+    let mut noted = Noted {
+        plan: &[],
+        a: &[],
+        b: &[],
+        c: &[],
+    };
+    let mut rest = text;
+    while !rest.is_empty() {
+        match rest[0] {
+            b'p' => noted.plan = rest,
+            b'a' => noted.a = rest,
+            b'b' => noted.b = rest,
+            b'c' => noted.c = rest,
+            b'#' => say::heading(out, rest)?,
+            b'A'..=b'Z' => case(out, rest, &noted)?,
             _ => {}
         }
-        at = item::line_end(text, at) + 1;
+        let end = item::line_end(rest);
+        rest = if end < rest.len() {
+            &rest[end + 1..]
+        } else {
+            &[]
+        };
     }
+    Ok(())
 }
 
-fn main() {
-    let mut text = io::large_buffer();
-    let n = io::read_full(STDIN, &mut text);
-    lines(&text[..n]);
+fn main(rt: HostRuntime) -> io::Result<()> {
+    let mut text = [0u8; 65536];
+    let n = input::read_full(&mut rt.reader(), &mut text)?;
+    lines(&mut io::writer(&rt), &text[..n])
 }

@@ -15,11 +15,11 @@ use Rattle.lists.proofs.Members.{up_in}
 use Rattle.plan.specs.Plan.{size, kind, parent, children_below, children, others, in_xor}
 use Rattle.event.specs.Event.{Code, offer, abort, answered-yes, answered-no, pick, down, code_number, code_of, event_of, applies_by, applies}
 use Rattle.event.proofs.CodeLaws.{two, code-back}
-use Rattle.central.specs.Central.{started, is_yes, is_no, finishes_by, fails_by, allowed_by, allowed}
+use Rattle.central.specs.Central.{Answer, started, is_yes, is_no, finishes_by, fails_by, allowed_by, allowed}
 use Rattle.central.specs.Rule.{answer_of, state_of}
-use Rattle.central.specs.Scan.{answer_number, mark_in, picked_at, besides}
+use Rattle.central.specs.Scan.{mark_in, picked_at, besides}
 use Rattle.central.proofs.MarkLaws.{at-idle, at-running, at-offered}
-use Rattle.central.proofs.NoteLaws.{is_none, answer-read, picked-read}
+use Rattle.central.proofs.NoteLaws.{answer-read, picked-read}
 
 -- a conditional may answer
 abbrev pub answers : List ℕ → List ℕ → ℕ → Bool
@@ -29,8 +29,8 @@ module _ (marks notes : List ℕ) (v : ℕ) where
   pub answer-early : mark_in 1 marks v ≡ true → false ≡ answers marks notes v
   answer-early h = rw (at-idle marks notes v, h)
 
-  pub answer-once : mark_in 1 marks v ≡ false → eqb (answer_number (answer_of (get_or notes v 0))) 0 ≡ answers marks notes v
-  answer-once h = rw (at-idle marks notes v, h, answer-read marks notes v) (is_none (answer_of (get_or notes v 0)))
+  pub answer-once : mark_in 1 marks v ≡ false → {a : Answer} → a ≡ answer_of (get_or notes v 0) → (not (is_yes a) && not (is_no a)) ≡ answers marks notes v
+  answer-once h e = rw (at-idle marks notes v, h, answer-read marks notes v, e)
 
 -- node 0 is nobody's child
 all-besides : (p : List ℕ) (u : ℕ) → besides 0 (children p u) ≡ children p u

@@ -13,7 +13,7 @@ use Rattle.central.specs.Mark.{mark_number, is_mark, mark_of}
 use Rattle.central.specs.Central.{mark_after, is_yes, is_no, reached_by, may_start, of_branch, finishes_by, fails_by, allowed_by, allowed}
 use Rattle.central.specs.Rule.{answer_of, state_of, noted, marks_after, notes_after, Ruled, ruled, right_size, rule_invalid, rule_on, rule_of, ruling_value}
 use Rattle.central.specs.Replay.{all_allowed, marks_left, notes_left}
-use Rattle.central.specs.declared.Ruling.TheVariants.{Allowed, Forbidden, Refused}
+use Rattle.central.specs.Ruling.{Allowed, Forbidden, Refused}
 
 pub plan : List ℕ
 plan = 2 ∷ 255 ∷ 1 ∷ 0 ∷ 5 ∷ 0 ∷ 1 ∷ 2 ∷ 1 ∷ 2 ∷ 1 ∷ 0 ∷ []

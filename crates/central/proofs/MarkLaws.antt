@@ -4,9 +4,11 @@ use mathlib.Core.Bool.{Bool, true, false, ◌||◌, not, beq}
 use mathlib.Core.List.{List, [], ◌∷◌}
 use Prim.Native.Nat.{ℕ, zero, suc, ◌-◌, ◌^◌, ◌/◌, ◌%◌, ◌≤◌, ◌<◌}
 use native.Mathlib.Omega.{arith}
-use lib.Dec.{eqb}
+use Rattle.std.proofs.Common.{min}
+use lib.Dec.{eqb, leb}
 use lib.ListN.{get_or}
-use borrow.Author.Tests.{ne_eqb}
+use borrow.Author.Tests.{ne_eqb, leb-true, leb-false}
+use Rattle.lists.proofs.Logic.{cases, decided}
 use Rattle.lists.specs.Seq.{all, up_from}
 use Rattle.lists.specs.Member.{In, here, there}
 use Rattle.lists.proofs.Members.{all-at, in-up}
@@ -46,15 +48,14 @@ mark-high b l =
       ne_eqb b 4 (λ e. omega arith),
     )
 
--- a byte b, read at v
-module _ (set : ℕ) (marks : List ℕ) (v b : ℕ) (e : b ≡ get_or marks v 0) where
-  pub byte_low : b ≤ 5 → eqb (set / 2 ^ b % 2) 1 ≡ mark_in set marks v
-  unfolding mark_in in_set
-  byte_low l = rw (← e, mark-low b l)
-
-  pub byte_high : 5 < b → eqb (set / 32 % 2) 1 ≡ mark_in set marks v
-  unfolding mark_in in_set mark_number
-  byte_high l = rw (← e, mark-high b l)
+-- a byte, read at v
+pub byte-read : (set : ℕ) (marks : List ℕ) (v b : ℕ) → b ≡ min (get_or marks v 0) 5 → eqb (set / 2 ^ b % 2) 1 ≡ mark_in set marks v
+unfolding mark_in in_set mark_number
+byte-read set marks v b e = cases (decided (leb (get_or marks v 0) 5))
+    (λ f. let l = leb-true (get_or marks v 0) 5 f in
+    let m : b ≡ get_or marks v 0 = omega (arith, e) in rw (m, mark-low (get_or marks v 0) l))
+    (λ f. let l = leb-false (get_or marks v 0) 5 f in
+    let m : b ≡ 5 = omega (arith, e) in rw (m, mark-high (get_or marks v 0) l))
 
 -- all there are
 unfoldable pub marks : List Mark

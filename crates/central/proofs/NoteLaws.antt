@@ -3,13 +3,14 @@ use mathlib.Core.Path.{◌≡◌, refl}
 use mathlib.Core.Bool.{true, false, ◌&&◌, not}
 use mathlib.Core.List.{List}
 use Prim.Native.Nat.{ℕ}
-use lib.Dec.{eqb}
 use lib.ListN.{get_or}
 use Rattle.event.specs.Event.{code_number}
 use Rattle.event.specs.Bit.{has_bit}
-use Rattle.central.specs.Central.{Answer, none, said-yes, said-no, is_yes, is_no}
+use Rattle.central.specs.Central.{none, said-yes, said-no, is_yes, is_no}
 use Rattle.central.specs.Rule.{answer_of, state_of}
-use Rattle.central.specs.Scan.{answer_number, picked_at}
+use Rattle.central.specs.Scan.{told_answer, picked_at}
+use Rattle.central.specs.declared.Answer.{Answer as Told}
+use Rattle.central.specs.declared.Answer.TheVariants.{Nothing, Yes, No}
 
 -- a byte's answer
 module _ (b : ℕ) where
@@ -25,24 +26,24 @@ module _ (b : ℕ) where
   unfolding answer_of code_number
   answer-none h k = rw (h, k)
 
--- an answer's number
-pub is-yes : (a : Answer) → eqb (answer_number a) 1 ≡ is_yes a
-unfolding answer_number is_yes
-is-yes none = refl
-is-yes said-yes = refl
-is-yes said-no = refl
+-- what the code tells of an answer, where it is another
+pub not-yes : (t : Told) → (t ≡ Yes → ⊥) → false ≡ is_yes (told_answer t)
+unfolding is_yes
+not-yes Nothing n = refl
+not-yes Yes n = absurd (n refl)
+not-yes No n = refl
 
-pub is-no : (a : Answer) → eqb (answer_number a) 2 ≡ is_no a
-unfolding answer_number is_no
-is-no none = refl
-is-no said-yes = refl
-is-no said-no = refl
+pub not-no : (t : Told) → (t ≡ No → ⊥) → false ≡ is_no (told_answer t)
+unfolding is_no
+not-no Nothing n = refl
+not-no Yes n = refl
+not-no No n = absurd (n refl)
 
-pub is_none : (a : Answer) → eqb (answer_number a) 0 ≡ (not (is_yes a) && not (is_no a))
-unfolding answer_number is_yes is_no
-is_none none = refl
-is_none said-yes = refl
-is_none said-no = refl
+pub not-nothing : (t : Told) → (t ≡ Nothing → ⊥) → false ≡ (not (is_yes (told_answer t)) && not (is_no (told_answer t)))
+unfolding is_yes is_no
+not-nothing Nothing n = absurd (n refl)
+not-nothing Yes n = refl
+not-nothing No n = refl
 
 module _ (marks notes : List ℕ) where
   pub answer-read : (v : ℕ) → (state_of marks notes).answer v ≡ answer_of (get_or notes v 0)

@@ -22,7 +22,7 @@ use Rattle.central.specs.Mark.{mark_number, mark_of}
 use Rattle.central.specs.Central.{fresh, after, allowed, run_from, reaches}
 use Rattle.central.specs.Rule.{answer_of, state_of, marks_after, notes_after, right_size, ruled, ruling_value}
 use Rattle.central.specs.Replay.{ask, all_allowed, marks_left, notes_left, blank_bytes}
-use Rattle.central.specs.declared.Ruling.TheVariants.{Allowed}
+use Rattle.central.specs.Ruling.{Allowed}
 use Rattle.central.proofs.MarkLaws.{mark-back}
 use Rattle.central.proofs.RuleLaws.{rule-refused, rule-forbidden, rule-allowed}
 use Rattle.central.proofs.StateLaws.{state-by, marks-by, notes-by, mark-other, note-other, advance-exact}

@@ -1,6 +1,6 @@
 -- The function's answers: refused, forbidden, allowed. Assumes nothing.
 use mathlib.Core.Path.{◌≡◌}
-use mathlib.Core.Bool.{true, false}
+use mathlib.Core.Bool.{Bool, true, false}
 use mathlib.Core.List.{List}
 use Prim.Native.Nat.{ℕ}
 use lib.Dec.{eqb}
@@ -13,12 +13,26 @@ use Rattle.event.specs.Valid.{invalid, Valid}
 use Rattle.event.proofs.ValidLaws.{valid}
 use Rattle.central.specs.Central.{allowed}
 use Rattle.central.specs.Rule.{state_of, marks_after, notes_after, right_size, ruled, rule_invalid, rule_on, rule_of}
-use Rattle.central.specs.declared.Ruling.TheVariants.{Allowed, Forbidden, Refused}
+use Rattle.central.specs.Ruling.{Allowed, Forbidden, Refused, ruling_of}
+use Rattle.central.specs.declared.Ruling.{Ruling as Told}
+use Rattle.fault.specs.declared.Fault.{Fault}
+use Rattle.fault.specs.Number.{fault_number}
+use Rattle.std.specs.Prelude.{Result, Ok, Err, IsErrAnd}
+use Rattle.std.proofs.Common.{ap, sym}
+
+-- what a `?` hands on is a refusal
+pub refused-is : (r : Result Told Fault) (e : Fault) → IsErrAnd r (λ y. y ≡ e) → ruling_of r ≡ Refused (fault_number e)
+refused-is (Ok x) e h = absurd h
+refused-is (Err f) e h = ap (λ y. Refused (fault_number y)) h
 
 module _ (p marks notes : List ℕ) where
   pub sized : right_size p marks notes ≡ true → (length marks ≡ size p) × (length notes ≡ size p)
   unfolding right_size
   sized h = (eqb-true (length marks) (size p) (and_left _ _ h), eqb-true (length notes) (size p) (and_right (eqb (length marks) (size p)) _ h))
+
+  -- s is what the code said of the sizes, and the tests 1 to 9 passed
+  pub told-valid : {code node : ℕ} {s : Bool} → s ≡ right_size p marks notes → 0 ≡ invalid p s true code node → Valid p (right_size p marks notes) true code node
+  told-valid {code} {node} e z = valid p (right_size p marks notes) true code node (rw e at (sym z))
 
   -- why is what the tests 1 to 9 answer
   module _ (code node why : ℕ) (told : why ≡ invalid p (right_size p marks notes) true code node) where
@@ -27,9 +41,6 @@ module _ (p marks notes : List ℕ) where
     rule-refused h = rw (← told, ne_eqb why 0 h)
 
     module _ (passed : why ≡ 0) where
-      pub rule-valid : Valid p (right_size p marks notes) true code node
-      rule-valid = valid p (right_size p marks notes) true code node (rw (← told) passed)
-
       pub rule-forbidden : allowed p (state_of marks notes) (event_of code node) ≡ false → rule_of p code node marks notes ≡ ruled marks notes Forbidden
       unfolding rule_of rule_invalid rule_on
       rule-forbidden h = rw (← told, passed, h)

@@ -1,8 +1,8 @@
--- Starts in the terms of the code: a place that is reached, by the kind byte of the parent, and a node that may start. Assumes nothing.
+-- Starts in the terms of the code: a place that is reached, by the kind of the parent, and a node that may start. Assumes nothing.
 use mathlib.Core.Path.{◌≡◌, sym, ◌∙◌}
 use mathlib.Core.Bool.{true, false, not}
 use mathlib.Core.List.{List}
-use mathlib.Core.Logic.{⊎_elim}
+use mathlib.Core.Logic.{◌⊎◌, ⊎_elim}
 use Prim.Native.Nat.{ℕ, pred, ◌-◌, ◌≤◌}
 use native.Mathlib.Omega.{arith}
 use lib.Dec.{eqb, ltb}
@@ -10,16 +10,15 @@ use lib.ListN.{get_or}
 use borrow.Author.Tests.{ne_eqb}
 use Rattle.lists.specs.Seq.{all, any, earlier}
 use Rattle.lists.proofs.Search.{any-kept, earlier_up}
-use Rattle.plan.specs.Plan.{kind_of, size, kind_byte, kind, parent, children_below, children, above}
-use Rattle.plan.proofs.PlanLaws.{kind-byte}
+use Rattle.plan.specs.Plan.{size, kind, parent, children_below, children, above}
+use Rattle.plan.specs.declared.kinds.Kind.{Kind}
+use Rattle.plan.specs.declared.kinds.Kind.TheVariants.{Serial as serial, And as and, Or as or, Xor as xor, Waiting as waiting, Contingency as contingency, Conditional as conditional}
 use Rattle.event.specs.Event.{start}
-use Rattle.central.specs.Central.{Central, reached_by, may_start, allowed_by}
+use Rattle.central.specs.Central.{Answer, is_yes, is_no, reached_by, may_start, allowed_by}
 use Rattle.central.specs.Rule.{answer_of, state_of}
-use Rattle.central.specs.Scan.{answer_number, mark_in}
-use Rattle.plan.proofs.KindLaws.{kind-other}
-use Rattle.central.proofs.Tests.{three}
+use Rattle.central.specs.Scan.{mark_in}
 use Rattle.central.proofs.MarkLaws.{at-idle, in-committed, in-failed, in-none}
-use Rattle.central.proofs.NoteLaws.{is-yes, is-no, answer-read}
+use Rattle.central.proofs.NoteLaws.{answer-read}
 
 earlier-children : (p : List ℕ) (u v : ℕ) → v ≤ size p → earlier (children p u) v ≡ children_below p v u
 unfolding children children_below
@@ -27,48 +26,36 @@ earlier-children p u v l =
     let e : pred v ≡ v - 1 = omega arith in
     rw e (earlier_up (λ c. eqb (parent p c) u) v 1 (pred (size p)) (omega arith))
 
-free : (k : ℕ) (s : Central) (u v : ℕ) (cs : List ℕ) → 3 ≤ k → k ≤ 5 → reached_by (kind_of k) s u cs v ≡ true
-unfolding reached_by kind_of
-free k s u v cs a b = ⊎_elim (λ e. rw e) (⊎_elim (λ e. rw e) (λ e. rw e)) (three 3 k a b)
-
--- v's place among the children of u, whose kind byte is k
-module _ (p marks notes : List ℕ) (u v k : ℕ) (e : k ≡ kind_byte p u) (l : v ≤ size p) where
-  by_kind : reached_by (kind p u) (state_of marks notes) u (children p u) v ≡ reached_by (kind_of k) (state_of marks notes) u (children p u) v
-  by_kind = rw (kind-byte p u, e)
-
-  pub reached-serial : k ≡ 2 → all (mark_in 8 marks) (children_below p v u) ≡ reached_by (kind p u) (state_of marks notes) u (children p u) v
-  unfolding reached_by kind_of
-  reached-serial h = sym (by_kind ∙ rw (h, earlier-children p u v l, in-committed marks notes))
-
-  pub reached-contingency : k ≡ 6 → all (mark_in 16 marks) (children_below p v u) ≡ reached_by (kind p u) (state_of marks notes) u (children p u) v
-  unfolding reached_by kind_of
-  reached-contingency h = sym (by_kind ∙ rw (h, earlier-children p u v l, in-failed marks notes))
-
-  pub reached-free : 3 ≤ k → k ≤ 5 → true ≡ reached_by (kind p u) (state_of marks notes) u (children p u) v
-  reached-free a b = sym (by_kind ∙ free k (state_of marks notes) u v (children p u) a b)
-
-  pub reached-waiting : k ≡ 8 → true ≡ reached_by (kind p u) (state_of marks notes) u (children p u) v
-  unfolding reached_by kind_of
-  reached-waiting h = sym (by_kind ∙ rw h)
-
-  pub reached-other : (2 ≤ k → k ≤ 8 → ⊥) → false ≡ reached_by (kind p u) (state_of marks notes) u (children p u) v
+-- v's place among the children of u, by the kind of u
+module _ (p marks notes : List ℕ) (u v : ℕ) (l : v ≤ size p) where
+  pub reached-serial : serial ≡ kind p u → all (mark_in 8 marks) (children_below p v u) ≡ reached_by (kind p u) (state_of marks notes) u (children p u) v
   unfolding reached_by
-  reached-other h = sym (by_kind ∙ rw (kind-other k h))
+  reached-serial e = rw (← e, earlier-children p u v l, in-committed marks notes)
+
+  pub reached-free : {k : Kind} → k ≡ kind p u → (k ≡ and) ⊎ ((k ≡ or) ⊎ ((k ≡ xor) ⊎ (k ≡ waiting))) → true ≡ reached_by (kind p u) (state_of marks notes) u (children p u) v
+  unfolding reached_by
+  reached-free e h =
+      ⊎_elim (λ f. let h : and ≡ kind p u = sym f ∙ e in rw (← h))
+      (λ g. ⊎_elim (λ f. let h : or ≡ kind p u = sym f ∙ e in rw (← h))
+      (λ i. ⊎_elim (λ f. let h : xor ≡ kind p u = sym f ∙ e in rw (← h)) (λ f. let h : waiting ≡ kind p u = sym f ∙ e in rw (← h)) i) g) h
+
+  pub reached-contingency : contingency ≡ kind p u → all (mark_in 16 marks) (children_below p v u) ≡ reached_by (kind p u) (state_of marks notes) u (children p u) v
+  unfolding reached_by
+  reached-contingency e = rw (← e, earlier-children p u v l, in-failed marks notes)
 
   -- the branch of the first child, which has none before it, is yes
   second : any (λ c. ltb c v) (children p u) ≡ not (all (mark_in 0 marks) (children_below p v u))
   unfolding earlier
   second = any-kept (λ c. ltb c v) (children p u) ∙ rw (← earlier-children p u v l, in-none marks)
 
-  pub reached-first : k ≡ 7 → all (mark_in 0 marks) (children_below p v u) ≡ true →
-      eqb (answer_number (answer_of (get_or notes u 0))) 1 ≡ reached_by (kind p u) (state_of marks notes) u (children p u) v
-  unfolding reached_by kind_of
-  reached-first h f = sym (by_kind ∙ rw (h, second, f, is-yes (answer_of (get_or notes u 0)), answer-read marks notes u))
+  module _ (e : conditional ≡ kind p u) {a : Answer} (told : a ≡ answer_of (get_or notes u 0)) where
+    pub reached-first : all (mark_in 0 marks) (children_below p v u) ≡ true → is_yes a ≡ reached_by (kind p u) (state_of marks notes) u (children p u) v
+    unfolding reached_by
+    reached-first f = rw (← e, second, f, answer-read marks notes u, told)
 
-  pub reached-second : k ≡ 7 → all (mark_in 0 marks) (children_below p v u) ≡ false →
-      eqb (answer_number (answer_of (get_or notes u 0))) 2 ≡ reached_by (kind p u) (state_of marks notes) u (children p u) v
-  unfolding reached_by kind_of
-  reached-second h f = sym (by_kind ∙ rw (h, second, f, is-no (answer_of (get_or notes u 0)), answer-read marks notes u))
+    pub reached-second : all (mark_in 0 marks) (children_below p v u) ≡ false → is_no a ≡ reached_by (kind p u) (state_of marks notes) u (children p u) v
+    unfolding reached_by
+    reached-second f = rw (← e, second, f, answer-read marks notes u, told)
 
 module _ (p marks notes : List ℕ) (v : ℕ) where
   pub start-not : mark_in 1 marks v ≡ false → false ≡ allowed_by p (state_of marks notes) start v

@@ -20,13 +20,6 @@ and-off b e h k = h ∙ ap (λ t. t && b) (sym (sym e ∙ h)) ∙ k
 pub three : (m n : ℕ) → m ≤ n → n ≤ m + 2 → (n ≡ m) ⊎ ((n ≡ m + 1) ⊎ (n ≡ m + 1 + 1))
 three m n a b = cases (decided (eqb n m)) (λ e. inl (eqb-true n m e)) (λ e. let q = eqb-false n m e in inr (two (m + 1) n (omega arith) (omega arith)))
 
--- behind the arms of a match: past n and not the next is past the next
-pub past : (n k : ℕ) → n < k → (k ≡ n + 1 → ⊥) → n + 1 < k
-past n k l h = omega arith
-
-pub past-kinds : (k : ℕ) → 8 < k → 2 ≤ k → k ≤ 8 → ⊥
-past-kinds k h a b = omega arith
-
 -- the code that is left
 pub last_code : (n : ℕ) → 1 ≤ n → n ≤ 8 → (n ≡ 7 → ⊥) → (n < 1) ⊎ (6 < n) → n ≡ 8
 last_code n low high h = ⊎_elim (λ l. omega arith) (λ l. omega arith)

@@ -1,7 +1,9 @@
 -- The central rule (rules E), which knows every mark, every answer and every pick, and no rows. Definitions only.
 use Rattle.std.specs.Prelude.{Bool, true, false, cond, ◌&&◌, ◌||◌, not, List, [], ◌∷◌, ℕ, eqb, ltb}
 use Rattle.lists.specs.Seq.{all, any, earlier}
-use Rattle.plan.specs.Plan.{Kind, task, serial, and, or, xor, contingency, conditional, waiting, kind, parent, children, others, above, in_xor}
+use Rattle.plan.specs.Plan.{kind, parent, children, others, above, in_xor}
+use Rattle.plan.specs.declared.kinds.Kind.{Kind}
+use Rattle.plan.specs.declared.kinds.Kind.TheVariants.{Task as task, Serial as serial, And as and, Or as or, Xor as xor, Contingency as contingency, Conditional as conditional, Waiting as waiting}
 use Rattle.event.specs.Event.{Code, start, offer, commit, abort, answered-yes, answered-no, pick, down, Event, applies}
 use Rattle.central.specs.Mark.{Mark, idle, running, offered, committed, failed, turned_down, is_mark}
 

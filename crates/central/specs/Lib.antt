@@ -2,5 +2,6 @@
 pub mod Mark
 pub mod Central
 pub mod Scan
+pub mod Ruling
 pub mod Rule
 pub mod Replay

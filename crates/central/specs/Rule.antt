@@ -7,8 +7,7 @@ use Rattle.event.specs.Bit.{has_bit, with_bit}
 use Rattle.event.specs.Valid.{invalid}
 use Rattle.central.specs.Mark.{mark_number, mark_of}
 use Rattle.central.specs.Central.{Answer, none, said-yes, said-no, Central, mark_after, allowed}
-use Rattle.central.specs.declared.Ruling.{Ruling}
-use Rattle.central.specs.declared.Ruling.TheVariants.{Allowed, Forbidden, Refused}
+use Rattle.central.specs.Ruling.{Ruling, Allowed, Forbidden, Refused}
 
 -- E10: what a note byte says: with both bits set, yes
 unfoldable pub answer_of : ℕ → Answer

@@ -10,9 +10,13 @@ ghost use Rattle.plan.specs.Check.{Accepted};
 ghost use Rattle.event.specs.Event.{code_of, event_of, applies, start, commit, pick, down};
 ghost use Rattle.central.specs.Central.{marked, started, is_yes, is_no, of_branch, reached_by, finishes_by, fails_by, allowed_by, allowed};
 ghost use Rattle.central.specs.Rule.{answer_of, state_of, marks_after, notes_after, right_size, ruled, rule_of};
-ghost use Rattle.central.specs.Scan.{answer_number, mark_in, picked_at, besides};
+ghost use Rattle.central.specs.Ruling.{ruling_of};
+ghost use Rattle.central.specs.Scan.{told_answer, mark_in, picked_at, besides};
 
-// Sets of marks: bit m stands for mark m.
+use fault::Fault;
+use plan::kinds::Kind;
+
+// Sets of marks: bit m stands for mark m. They stay bytes, since one shift tests a mark and `255 - set` is all other marks; a slice would be searched.
 const NONE: u8 = 0;
 
 const IDLE: u8 = 0b000001;
@@ -29,44 +33,48 @@ const ENDED: u8 = 0b011000; // committed or failed
 
 const SETTLED: u8 = 0b111000; // committed, failed or turned down
 
-// The rule's answer. Refused holds the number of the test that failed, 1 to 9.
-#[derive(Drop)]
+// The rule's answer on an event that it was asked of.
+#[derive(Clone, Copy, PartialEq, Eq)]
 pub enum Ruling {
     Allowed,
     Forbidden,
-    Refused(u8),
+}
+
+// What a conditional has answered.
+#[derive(Clone, Copy, PartialEq, Eq)]
+enum Answer {
+    Nothing,
+    Yes,
+    No,
 }
 
 // v's byte.
 fn byte_of(bytes: &[u8], v: u8) -> u8
     ensures { result ≡ get_or bytes.now v 0 }
 {
-    plan::byte_at(bytes, plan::wide(v))
+    plan::byte_at(bytes, usize::from(v))
 }
 
 // v's mark is in the set. A mark byte above 5 is read as 5.
 fn marked(marks: &[u8], v: u8, set: u8) -> bool
     ensures { result ≡ mark_in set marks.now v }
 {
-    let b = byte_of(marks, v);
-    if 5 < b {
-        return (set >> 5) % 2 == 1;
-    }
-    (set >> b) % 2 == 1
+    let mark = byte_of(marks, v).min(5);
+    (set >> mark) % 2 == 1
 }
 
-// What v has answered: 0 nothing, 1 yes, 2 no.
-fn answer(notes: &[u8], v: u8) -> u8
-    ensures { result ≡ answer_number (answer_of (get_or notes.now v 0)) }
+// What v has answered.
+fn answered(notes: &[u8], v: u8) -> Answer
+    ensures { told_answer result ≡ answer_of (get_or notes.now v 0) }
 {
     let b = byte_of(notes, v);
     if event::has_bit(b, 5) {
-        return 1;
+        Answer::Yes
+    } else if event::has_bit(b, 6) {
+        Answer::No
+    } else {
+        Answer::Nothing
     }
-    if event::has_bit(b, 6) {
-        return 2;
-    }
-    0
 }
 
 // v is picked.
@@ -76,18 +84,16 @@ fn picked(notes: &[u8], v: u8) -> bool
     event::has_bit(byte_of(notes, v), 7)
 }
 
+// The functions take plan, marks and notes apart, as `rule` is lent them: each reads some of the three, and a struct would make its clauses longer.
+
 // Every child of u below `below` has a mark of the set.
 fn all_marked(plan: &[u8], marks: &[u8], u: u8, below: u8, set: u8) -> bool
     ensures { result ≡ all (mark_in set marks.now) (children_below plan.now below u) }
 {
-    let mut c = 1;
-    while c < below {
-        if plan::parent(plan, c) == u {
-            if !marked(marks, c, set) {
-                return false;
-            }
+    for c in 1..below {
+        if plan::parent(plan, c) == u && !marked(marks, c, set) {
+            return false;
         }
-        c += 1;
     }
     true
 }
@@ -98,14 +104,10 @@ fn any_picked(plan: &[u8], notes: &[u8], u: u8, skip: u8) -> bool
     ensures { result ≡ any (picked_at notes.now) (besides skip (children plan.now u)) }
 {
     let n = plan::node_count(plan) as u8;
-    let mut c = 1;
-    while c < n {
-        if plan::parent(plan, c) == u {
-            if c != skip && picked(notes, c) {
-                return true;
-            }
+    for c in 1..n {
+        if plan::parent(plan, c) == u && c != skip && picked(notes, c) {
+            return true;
         }
-        c += 1;
     }
     false
 }
@@ -117,15 +119,13 @@ fn child_at(plan: &[u8], u: u8, k: u8) -> u8
 {
     let n = plan::node_count(plan) as u8;
     let mut left = k;
-    let mut c = 1;
-    while c < n {
+    for c in 1..n {
         if plan::parent(plan, c) == u {
             if left == 0 {
                 return c;
             }
             left -= 1;
         }
-        c += 1;
     }
     0
 }
@@ -151,10 +151,10 @@ fn branch(plan: &[u8], marks: &[u8], notes: &[u8], v: u8, set: u8) -> bool
     requires { (size plan.now ≤ 160) × (length (children plan.now v) ≡ 2) }
     ensures { result ≡ of_branch (mark_in set marks.now) (answer_of (get_or notes.now v 0)) (children plan.now v) }
 {
-    match answer(notes, v) {
-        1 => marked(marks, child_at(plan, v, 0), set),
-        2 => marked(marks, child_at(plan, v, 1), set),
-        _ => false,
+    match answered(notes, v) {
+        Answer::Yes => marked(marks, child_at(plan, v, 0), set),
+        Answer::No => marked(marks, child_at(plan, v, 1), set),
+        Answer::Nothing => false,
     }
 }
 
@@ -163,19 +163,18 @@ fn reached(plan: &[u8], marks: &[u8], notes: &[u8], u: u8, v: u8) -> bool
     requires { v ≤ size plan.now }
     ensures { let p = plan.now in result ≡ reached_by (kind p u) (state_of marks.now notes.now) u (children p u) v }
 {
-    match plan::kind(plan, u) {
-        2 => all_marked(plan, marks, u, v, COMMITTED),
-        3..=5 => true,
-        6 => all_marked(plan, marks, u, v, FAILED),
-        7 => {
+    match plan::node_kind(plan, u) {
+        Kind::Task => false,
+        Kind::Serial => all_marked(plan, marks, u, v, COMMITTED),
+        Kind::And | Kind::Or | Kind::Xor | Kind::Waiting => true,
+        Kind::Contingency => all_marked(plan, marks, u, v, FAILED),
+        Kind::Conditional => {
             if all_marked(plan, marks, u, v, NONE) {
-                answer(notes, u) == 1
+                matches!(answered(notes, u), Answer::Yes)
             } else {
-                answer(notes, u) == 2
+                matches!(answered(notes, u), Answer::No)
             }
         }
-        8 => true,
-        _ => false,
     }
 }
 
@@ -202,14 +201,13 @@ fn finishes(plan: &[u8], marks: &[u8], notes: &[u8], v: u8) -> bool
     requires { Accepted plan.now × (v < size plan.now) }
     ensures { let p = plan.now in result ≡ finishes_by (kind p v) (state_of marks.now notes.now) v (children p v) }
 {
-    match plan::kind(plan, v) {
-        2..=3 => every(plan, marks, v, COMMITTED),
-        4 => every(plan, marks, v, ENDED) && some(plan, marks, v, COMMITTED),
-        5 => every(plan, marks, v, SETTLED) && some(plan, marks, v, COMMITTED),
-        6 => some(plan, marks, v, COMMITTED),
-        7 => branch(plan, marks, notes, v, COMMITTED),
-        8 => every(plan, marks, v, COMMITTED),
-        _ => true,
+    match plan::node_kind(plan, v) {
+        Kind::Task => true,
+        Kind::Serial | Kind::And | Kind::Waiting => every(plan, marks, v, COMMITTED),
+        Kind::Or => every(plan, marks, v, ENDED) && some(plan, marks, v, COMMITTED),
+        Kind::Xor => every(plan, marks, v, SETTLED) && some(plan, marks, v, COMMITTED),
+        Kind::Contingency => some(plan, marks, v, COMMITTED),
+        Kind::Conditional => branch(plan, marks, notes, v, COMMITTED),
     }
 }
 
@@ -218,12 +216,12 @@ fn fails(plan: &[u8], marks: &[u8], notes: &[u8], v: u8) -> bool
     requires { Accepted plan.now × (v < size plan.now) }
     ensures { let p = plan.now in result ≡ fails_by (kind p v) (state_of marks.now notes.now) v (children p v) }
 {
-    match plan::kind(plan, v) {
-        2..=3 => some(plan, marks, v, FAILED),
-        4..=6 => every(plan, marks, v, FAILED),
-        7 => branch(plan, marks, notes, v, FAILED),
-        8 => every(plan, marks, v, ENDED) && some(plan, marks, v, FAILED),
-        _ => true,
+    match plan::node_kind(plan, v) {
+        Kind::Task => true,
+        Kind::Serial | Kind::And => some(plan, marks, v, FAILED),
+        Kind::Or | Kind::Xor | Kind::Contingency => every(plan, marks, v, FAILED),
+        Kind::Conditional => branch(plan, marks, notes, v, FAILED),
+        Kind::Waiting => every(plan, marks, v, ENDED) && some(plan, marks, v, FAILED),
     }
 }
 
@@ -232,10 +230,9 @@ fn may_commit(plan: &[u8], marks: &[u8], notes: &[u8], v: u8) -> bool
     requires { Accepted plan.now × (v < size plan.now) }
     ensures { result ≡ allowed_by plan.now (state_of marks.now notes.now) commit v }
 {
-    if plan::above(plan, v) == 5 {
-        marked(marks, v, OFFERED) && picked(notes, v)
-    } else {
-        marked(marks, v, RUNNING) && finishes(plan, marks, notes, v)
+    match plan::kind_above(plan, v) {
+        Kind::Xor => marked(marks, v, OFFERED) && picked(notes, v),
+        _ => marked(marks, v, RUNNING) && finishes(plan, marks, notes, v),
     }
 }
 
@@ -243,7 +240,7 @@ fn may_commit(plan: &[u8], marks: &[u8], notes: &[u8], v: u8) -> bool
 fn may_answer(marks: &[u8], notes: &[u8], v: u8) -> bool
     ensures { let s = state_of marks.now notes.now in result ≡ (started s v && not (is_yes (s.answer v)) && not (is_no (s.answer v))) }
 {
-    !marked(marks, v, IDLE) && answer(notes, v) == 0
+    !marked(marks, v, IDLE) && matches!(answered(notes, v), Answer::Nothing)
 }
 
 // An offered child is picked if none is yet (E7).
@@ -262,7 +259,7 @@ fn may_turn_down(plan: &[u8], marks: &[u8], notes: &[u8], v: u8) -> bool
     marked(marks, v, OFFERED) && any_picked(plan, notes, plan::parent(plan, v), v)
 }
 
-// The rule allows an event, which applies.
+// The rule allows an event, which applies. Codes are the numbers that the crate event speaks of, whose rules go by them.
 fn allowed(plan: &[u8], code: u8, v: u8, marks: &[u8], notes: &[u8]) -> bool
     requires accepted { Accepted plan.now × (v < size plan.now) }
     requires le_code { (1 ≤ code) × (code ≤ 8) }
@@ -286,7 +283,7 @@ fn advance(code: u8, v: u8, marks: &mut [u8], notes: &mut [u8])
     requires v_in_bounds { (v < length marks.old) × (v < length notes.old) }
     ensures { (marks.new ≡ marks_after (code_of code) v marks.old) × (notes.new ≡ notes_after (code_of code) v notes.old) }
 {
-    let i = plan::wide(v);
+    let i = usize::from(v);
     match code {
         1..=4 => marks[i] = code,
         5..=7 => notes[i] = event::with_bit(notes[i], code),
@@ -303,16 +300,19 @@ fn right_size(plan: &[u8], marks: &[u8], notes: &[u8]) -> bool
 }
 
 // The rule on an event: its answer, and marks and notes advanced where the event is allowed (E10).
-pub fn rule(plan: &[u8], code: u32, node: u32, marks: &mut [u8], notes: &mut [u8]) -> Ruling
-    ensures { rule_of plan.now code node marks.old notes.old ≡ ruled marks.new notes.new result }
+pub fn rule(
+    plan: &[u8],
+    code: u32,
+    node: u32,
+    marks: &mut [u8],
+    notes: &mut [u8],
+) -> Result<Ruling, Fault>
+    ensures { rule_of plan.now code node marks.old notes.old ≡ ruled marks.new notes.new (ruling_of result) }
 {
-    let why = event::validate(plan, right_size(plan, marks, notes), true, code, node);
-    if why != 0 {
-        return Ruling::Refused(why);
-    }
+    event::validate(plan, right_size(plan, marks, notes), true, code, node)?;
     if !allowed(plan, code as u8, node as u8, marks, notes) {
-        return Ruling::Forbidden;
+        return Ok(Ruling::Forbidden);
     }
     advance(code as u8, node as u8, marks, notes);
-    Ruling::Allowed
+    Ok(Ruling::Allowed)
 }

@@ -4,9 +4,12 @@
 
 ghost use Rattle.std.specs.Prelude.{◌≡◌, ◌<◌, length, replicate};
 ghost use Rattle.lists.specs.Seq.{table};
+ghost use Rattle.fault.specs.Number.{number_of};
 ghost use Rattle.plan.specs.Plan.{kind_of, size, kind_byte, parent, child_count, depth};
 ghost use Rattle.plan.specs.Check.{length_ok, kind_ok, parent_ok, under_block, fits, count_ok, depth_ok, at_all, check_number, fit_number, Ordered};
 ghost use Rattle.checker.specs.Depths.{checked, depths_front, depths_of};
+
+use fault::Fault;
 
 pub fn kind_at(plan: &[u8], v: usize) -> u8
     requires { v < size plan.now }
@@ -19,7 +22,7 @@ pub fn parent_at(plan: &[u8], v: usize) -> usize
     requires { v < size plan.now }
     ensures { result ≡ parent plan.now v }
 {
-    plan::wide(plan[2 * v + 1])
+    usize::from(plan[2 * v + 1])
 }
 
 // Test 1 alone.
@@ -41,16 +44,15 @@ fn kind_ok(plan: &[u8], v: usize) -> bool
     1 <= k && k <= 8
 }
 
-// Test 2 alone. Here and below a loop runs on behind a failed test: that is faster where none fails.
+// Test 2 alone. Here and below a loop runs on behind a failed test: that is faster where none fails. One loop for all tests, with the test as a
+// closure, would be no plainer: its clauses on the closure are longer than the loops.
 pub fn kinds_ok(plan: &[u8]) -> bool
     ensures { result ≡ at_all kind_ok plan.now }
 {
     let n = plan::node_count(plan);
     let mut ok = true;
-    let mut v = 0;
-    while v < n {
+    for v in 0..n {
         ok = ok & kind_ok(plan, v);
-        v += 1;
     }
     ok
 }
@@ -71,15 +73,13 @@ fn parents_ok(plan: &[u8]) -> bool
 {
     let n = plan::node_count(plan);
     let mut ok = true;
-    let mut v = 0;
-    while v < n {
+    for v in 0..n {
         ok = ok & parent_ok(plan, v);
-        v += 1;
     }
     ok
 }
 
-// Test 4 at a node: its parent can have children.
+// Test 4 at a node: its parent can have children. By the byte, as H4 says it: one that is no kind is not a task's.
 pub fn under_block(plan: &[u8], v: usize) -> bool
     requires { Ordered plan.now × (v < size plan.now) }
     ensures { result ≡ under_block plan.now v }
@@ -110,19 +110,18 @@ fn survey(plan: &[u8], counts: &mut [u8], depths: &mut [u8]) -> Surveyed
     let mut blocks = true;
     let mut shallow = true;
     depths[0] = 1;
-    let mut v = 1;
-    while v < n {
+    for v in 1..n {
         blocks = blocks & under_block(plan, v);
         let u = parent_at(plan, v);
         counts[u] = counts[u] + 1;
         let d = depths[u] + 1;
         shallow = shallow & (d <= 32);
         depths[v] = d;
-        v += 1;
     }
     Surveyed { blocks, shallow }
 }
 
+// By the byte: by the kind that it stands for, the check of 160 nodes took 730 nanoseconds in place of 520.
 fn count_ok(k: u8, n: u8) -> bool
     ensures { result ≡ fits (kind_of k) n }
 {
@@ -140,77 +139,68 @@ fn counts_match(plan: &[u8], counts: &[u8]) -> bool
 {
     let n = plan::node_count(plan);
     let mut ok = true;
-    let mut v = 0;
-    while v < n {
+    for v in 0..n {
         ok = ok & count_ok(kind_at(plan, v), counts[v]);
-        v += 1;
     }
     ok
 }
 
-// The number of the first test that the plan fails; or 0, and each node's depth in the front of `depths`, which is zeros before.
-fn check_into(plan: &[u8], depths: &mut [u8]) -> u8
+// The first test that the plan fails; or nothing, and each node's depth in the front of `depths`, which is zeros before.
+fn check_into(plan: &[u8], depths: &mut [u8]) -> Result<(), Fault>
     requires { depths.old ≡ replicate 160 0 }
-    ensures value { result ≡ check_number plan.now }
-    ensures depths_after { result ≡ 0 → depths.new ≡ depths_front plan.now }
+    ensures value { number_of result ≡ check_number plan.now }
+    ensures depths_after { number_of result ≡ 0 → depths.new ≡ depths_front plan.now }
 {
     if !length_ok(plan) {
-        return 1;
+        return Err(Fault::BadLength);
     }
     if !kinds_ok(plan) {
-        return 2;
+        return Err(Fault::BadKind);
     }
     if !parents_ok(plan) {
-        return 3;
+        return Err(Fault::BadParent);
     }
     let n = plan::node_count(plan);
     let mut counts = [0u8; 160];
     let found = survey(plan, &mut counts[..n], &mut depths[..n]);
     if !found.blocks {
-        return 4;
+        return Err(Fault::TaskParent);
     }
     if !counts_match(plan, &counts[..n]) {
-        return 5;
+        return Err(Fault::BadChildren);
     }
     if !found.shallow {
-        return 6;
+        return Err(Fault::TooDeep);
     }
-    0
+    Ok(())
 }
 
-// The number of the first test that the plan fails, and 0 where it passes all.
-pub fn check(plan: &[u8]) -> u8
-    ensures { result ≡ check_number plan.now }
+// The first test that the plan fails.
+pub fn check(plan: &[u8]) -> Result<(), Fault>
+    ensures { number_of result ≡ check_number plan.now }
 {
     let mut depths = [0u8; 160];
     check_into(plan, &mut depths[..160])
 }
 
-// The number that `check` answers; where that is 0, 7 unless `fits`: the lengths of what is lent beside the plan are right.
-pub fn fit(plan: &[u8], fits: bool) -> u8
-    ensures { result ≡ fit_number plan.now fits }
+// The same; and where none fails, whether `fits`: the lengths of what is lent beside the plan are right.
+pub fn fit(plan: &[u8], fits: bool) -> Result<(), Fault>
+    ensures { number_of result ≡ fit_number plan.now fits }
 {
-    let number = check(plan);
-    if number != 0 {
-        return number;
-    }
-    if fits { 0 } else { 7 }
+    check(plan)?;
+    if fits { Ok(()) } else { Err(Fault::BadBuffer) }
 }
 
-// The check, and every node's depth in `out`: the number that `check` answers, and 7 where that is 0 and `out` is not one byte a node. A
-// refused call leaves `out`.
-pub fn check_depths(plan: &[u8], out: &mut [u8]) -> u8
-    ensures { depths_of plan.now out.old ≡ checked out.new result }
+// The check, and every node's depth in `out`, which has to be one byte a node. A refused call leaves `out`.
+pub fn check_depths(plan: &[u8], out: &mut [u8]) -> Result<(), Fault>
+    ensures { depths_of plan.now out.old ≡ checked out.new (number_of result) }
 {
     let mut depths = [0u8; 160];
-    let bad = check_into(plan, &mut depths[..160]);
-    if bad != 0 {
-        return bad;
-    }
+    check_into(plan, &mut depths[..160])?;
     let n = plan::node_count(plan);
     if out.len() != n {
-        return 7;
+        return Err(Fault::BadBuffer);
     }
     lists::copy(&depths[..n], out);
-    0
+    Ok(())
 }

@@ -5,9 +5,9 @@ use mathlib.Core.List.{List, ◌++◌, append-nil}
 use Prim.Native.Nat.{ℕ, ◌≤◌}
 use native.Mathlib.Omega.{arith}
 use lib.Dec.{eqb}
-use lib.ListN.{length, take, drop, replicate, length-replicate, drop_of_length-le}
+use lib.ListN.{length, take, replicate, length-replicate, drop_of_length-le}
 use borrow.Author.Tests.{eqb-true, eq-eqb, ne_eqb}
-use Rattle.lists.proofs.Parts.{part_length, Back, copied-over}
+use Rattle.lists.proofs.Parts.{part_length, Back}
 use Rattle.plan.specs.Check.{length_ok, kind_ok, at_all, check_number, fit_number, Accepted}
 use Rattle.plan.specs.Replaced.{replaced}
 use Rattle.plan.proofs.CheckLaws.{length-told}
@@ -108,15 +108,10 @@ module _ (d out : List ℕ) where
         from-refused h = rw (from-number, ne_eqb n 0 h)
 
         module _ (fine : n ≡ 0) where
-          from-long : length out ≡ length d
+          pub from-long : length out ≡ length d
           from-long = eqb-true (length out) (length d) (fit_none q _ (sym told ∙ fine)).1
 
-          pub from-room : length q ≤ length out
-          from-room = omega (arith, from-long, ap length made, plan-long d, (length-told d a).even)
-
           -- q is copied over the lent bytes
-          pub from-done : (new : List ℕ) → new ≡ take (length q) q ++ drop (length q) out → from_depths_of d out ≡ replaced 0 new
+          pub from-done : (new : List ℕ) → new ≡ q → from_depths_of d out ≡ replaced 0 new
           unfolding from_depths_of
-          from-done new f =
-              let same : length q ≡ length out = ap length made ∙ plan-long d ∙ sym (length-told d a).even ∙ sym from-long in
-              rw (from-number, fine, f ∙ copied-over q out same ∙ made)
+          from-done new f = rw (from-number, fine, f ∙ made)

@@ -4,6 +4,7 @@
 #![tactic(auto)]
 
 ghost use Rattle.std.specs.Prelude.{◌≡◌, true, ◌<◌, length};
+ghost use Rattle.fault.specs.Number.{number_of};
 ghost use Rattle.plan.specs.Plan.{size};
 ghost use Rattle.plan.specs.Check.{length_ok, at_all, Accepted};
 ghost use Rattle.trees.specs.Numbering.{renumbered, is_above, in_preorder};
@@ -11,6 +12,8 @@ ghost use Rattle.plan.specs.Replaced.{replaced};
 ghost use Rattle.trees.specs.Renumber.{renumber_of};
 ghost use Rattle.depth_form.specs.Form.{depth_form, depth_at, form_plan, level_ok};
 ghost use Rattle.depth_form.specs.Calls.{to_depths_of, from_depths_of};
+
+use fault::Fault;
 
 // Whether u is v or above v: climbs from v while that is behind u.
 fn is_above(plan: &[u8], u: usize, v: usize) -> bool
@@ -24,18 +27,16 @@ fn is_above(plan: &[u8], u: usize, v: usize) -> bool
     w == u
 }
 
-// Whether the plan is in the fixed numbering. A node is climbed from only when its subtree ends, so all climbs together are linear.
+// Whether the plan is in the fixed numbering. A node is climbed from only when its subtree ends, so all climbs together are linear. No `all` in
+// place of the loop: its closure would ask anew for all that the loop knows of v.
 fn in_preorder(plan: &[u8]) -> bool
     requires { Accepted plan.now }
     ensures { result ≡ in_preorder plan.now }
 {
-    let n = plan::node_count(plan);
-    let mut v = 1;
-    while v < n {
+    for v in 1..plan::node_count(plan) {
         if !is_above(plan, checker::parent_at(plan, v), v - 1) {
             return false;
         }
-        v += 1;
     }
     true
 }
@@ -44,22 +45,17 @@ fn write_renumbered(plan: &[u8], out: &mut [u8])
     requires { Accepted plan.now × (length out.old ≡ length plan.now) }
     ensures { out.new ≡ renumbered plan.now }
 {
-    let mut first = [0u8; 160];
-    let mut next = [0u8; 160];
-    links::link_all(plan, &mut first, &mut next);
-    placing::place(plan, &first, &next, out, 0, 255, 0);
+    let links = links::link(plan);
+    placing::place(plan, &links, out, 0, 255, 0);
 }
 
-// The same tree in the fixed numbering, into `out`: 1 to 6 by the check, 7 where `out` has not the plan's length, and 0 where it is written.
-pub fn renumber(plan: &[u8], out: &mut [u8]) -> u8
-    ensures { renumber_of plan.now out.old ≡ replaced result out.new }
+// The same tree in the fixed numbering, into `out`, which has to have the plan's length.
+pub fn renumber(plan: &[u8], out: &mut [u8]) -> Result<(), Fault>
+    ensures { renumber_of plan.now out.old ≡ replaced (number_of result) out.new }
 {
-    let bad = checker::fit(plan, out.len() == plan.len());
-    if bad != 0 {
-        return bad;
-    }
+    checker::fit(plan, out.len() == plan.len())?;
     write_renumbered(plan, out);
-    0
+    Ok(())
 }
 
 // A node's depth is one more than its parent's, which is written before it.
@@ -67,41 +63,34 @@ fn write_depths(plan: &[u8], out: &mut [u8])
     requires { Accepted plan.now × (length out.old ≡ length plan.now) }
     ensures { out.new ≡ depth_form plan.now }
 {
-    let n = plan::node_count(plan);
     placing::set_line(out, 0, checker::kind_at(plan, 0), 1);
-    let mut v = 1;
-    while v < n {
+    for v in 1..plan::node_count(plan) {
         let u = checker::parent_at(plan, v);
         let d = out[2 * u + 1] + 1;
         placing::set_line(out, v, checker::kind_at(plan, v), d);
-        v += 1;
     }
 }
 
-// The depth form of a plan, into `out`: 1 to 6 by the check, 18 where the plan is not in the fixed numbering, 7 where `out` has not its
-// length, and 0 where it is written.
-pub fn to_depths(plan: &[u8], out: &mut [u8]) -> u8
-    ensures { to_depths_of plan.now out.old ≡ replaced result out.new }
+// The depth form of a plan, into `out`: the plan has to be in the fixed numbering, and `out` to have its length.
+pub fn to_depths(plan: &[u8], out: &mut [u8]) -> Result<(), Fault>
+    ensures { to_depths_of plan.now out.old ≡ replaced (number_of result) out.new }
 {
-    let bad = checker::check(plan);
-    if bad != 0 {
-        return bad;
-    }
+    checker::check(plan)?;
     if !in_preorder(plan) {
-        return 18;
+        return Err(Fault::NotRenumbered);
     }
     if out.len() != plan.len() {
-        return 7;
+        return Err(Fault::BadBuffer);
     }
     write_depths(plan, out);
-    0
+    Ok(())
 }
 
 fn depth_at(depths: &[u8], v: usize) -> usize
     requires { v < size depths.now }
     ensures { result ≡ depth_at depths.now v }
 {
-    plan::wide(depths[2 * v + 1])
+    usize::from(depths[2 * v + 1])
 }
 
 fn level_ok(depths: &[u8], v: usize) -> bool
@@ -113,19 +102,16 @@ fn level_ok(depths: &[u8], v: usize) -> bool
         return e == 1;
     }
     let before = depth_at(depths, v - 1);
-    (2 <= e) & (e <= before + 1)
+    2 <= e && e <= before + 1
 }
 
-// As in the check, the loop runs on behind a failed test.
+// As in the check, the loop runs on behind a failed test, and has no closure for its test: the closure's clauses would be longer than the loop.
 fn levels_ok(depths: &[u8]) -> bool
     ensures { result ≡ at_all level_ok depths.now }
 {
-    let n = plan::node_count(depths);
     let mut ok = true;
-    let mut v = 0;
-    while v < n {
+    for v in 0..plan::node_count(depths) {
         ok = ok & level_ok(depths, v);
-        v += 1;
     }
     ok
 }
@@ -135,39 +121,33 @@ fn write_plan(depths: &[u8], out: &mut [u8])
     requires { (length_ok depths.now ≡ true) × (at_all level_ok depths.now ≡ true) × (length out.old ≡ length depths.now) }
     ensures { out.new ≡ form_plan depths.now }
 {
-    let n = plan::node_count(depths);
     let mut last = [0u8; 161];
     placing::set_line(out, 0, checker::kind_at(depths, 0), 255);
-    let mut v = 1;
-    while v < n {
+    for v in 1..plan::node_count(depths) {
         let e = depth_at(depths, v);
         placing::set_line(out, v, checker::kind_at(depths, v), last[e - 1]);
         last[e] = v as u8;
-        v += 1;
     }
 }
 
-// The plan of a depth form, into `out`: 1 and 2 as of a plan, 17 for its depths, 4 to 6 of its plan, 7 where `out` has not the form's length,
-// and 0 where it is written.
-pub fn from_depths(depths: &[u8], out: &mut [u8]) -> u8
-    ensures { from_depths_of depths.now out.old ≡ replaced result out.new }
+// The plan of a depth form, into `out`, which has to have the form's length: the tests of a plan, but for those of its depths in place of
+// parents.
+pub fn from_depths(depths: &[u8], out: &mut [u8]) -> Result<(), Fault>
+    ensures { from_depths_of depths.now out.old ≡ replaced (number_of result) out.new }
 {
     if !checker::length_ok(depths) {
-        return 1;
+        return Err(Fault::BadLength);
     }
     if !checker::kinds_ok(depths) {
-        return 2;
+        return Err(Fault::BadKind);
     }
     if !levels_ok(depths) {
-        return 17;
+        return Err(Fault::BadDepth);
     }
     let n = depths.len();
     let mut plan = [0u8; 320];
     write_plan(depths, &mut plan[..n]);
-    let bad = checker::fit(&plan[..n], out.len() == n);
-    if bad != 0 {
-        return bad;
-    }
-    lists::copy(&plan[..n], out);
-    0
+    checker::fit(&plan[..n], out.len() == n)?;
+    out.copy_from_slice(&plan[..n]);
+    Ok(())
 }

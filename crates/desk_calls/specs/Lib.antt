@@ -1,2 +1,1 @@
--- Letters: as in desks and keeping.
-pub mod Entries
+-- What the calls mean is the crate desks's.

@@ -3,21 +3,18 @@
 // holds is the crate results's.
 #![tactic(auto)]
 
-ghost use Rattle.std.specs.Prelude.{◌≡◌, List, ◌-◌, length, get_or, set};
-ghost use Rattle.journal.specs.Journal.{no_entry};
-ghost use Rattle.rewind.specs.Arrays.{entries_of};
+ghost use Rattle.std.specs.Prelude.{◌≡◌};
 ghost use Rattle.desks.specs.Desk.{desk_check};
 ghost use Rattle.desks.specs.Calls.{desk_step_of, desk_simulate_of, desk_keep_of, desk_undo_of, desk_point_undo_of, desk_point_back_of, desk_record_into, desk_record_by_into};
 ghost use Rattle.results.specs.Result.{result_of, of_verdict, AsKept, AsUndone, AsReturned};
 
 use journal::Entry;
-use results::KeptResult;
 
 #[unsafe(no_mangle)]
 pub extern "C" fn vulcedar_desk_check(plan: &[u8]) -> u32
     ensures { result ≡ result_of (desk_check plan.now) 0 0 }
 {
-    results::packed(desk_layout::check(plan), 0)
+    results::of_done(desk_layout::check(plan))
 }
 
 #[unsafe(no_mangle)]
@@ -42,27 +39,6 @@ pub extern "C" fn vulcedar_desk_simulate(
     results::of_verdict(desk_calls::simulate(plan, code, node, desk, state))
 }
 
-fn desk_keep_result(
-    plan: &[u8],
-    code: u32,
-    node: u32,
-    desk: u32,
-    state: &mut [u8],
-    len: usize,
-    count: &mut usize,
-) -> KeptResult
-    ensures { ((es : List Entry) → length es ≡ len → AsKept (desk_keep_of plan.now state.old es count.old code node desk) result.result state.new (set es result.at result.entry) count.new) }
-{
-    let kept = desk_calls::keep(plan, code, node, desk, state, len, count);
-    let verdict = kept.verdict;
-    let entry = kept.entry;
-    KeptResult {
-        result: results::of_verdict(verdict),
-        at: kept.at,
-        entry,
-    }
-}
-
 #[unsafe(no_mangle)]
 pub extern "C" fn vulcedar_desk_keep(
     plan: &[u8],
@@ -75,16 +51,7 @@ pub extern "C" fn vulcedar_desk_keep(
 ) -> u32
     ensures { AsKept (desk_keep_of plan.now state.old entries.old count.old code node desk) result state.new entries.new count.new }
 {
-    let len = entries.len();
-    let a = desk_keep_result(plan, code, node, desk, state, len, count);
-    journal::append(entries, a.at, a.entry);
-    a.result
-}
-
-fn desk_undo_result(plan: &[u8], state: &mut [u8], len: usize, count: &mut usize, e: Entry) -> u32
-    ensures { ((es : List Entry) → length es ≡ len → get_or es (count.old - 1) no_entry ≡ e → AsUndone (desk_undo_of plan.now state.old es count.old) result state.new count.new) }
-{
-    results::packed(desk_calls::undo(plan, state, len, count, e), 0)
+    results::of_verdict(desk_calls::keep(plan, code, node, desk, state, entries, count))
 }
 
 #[unsafe(no_mangle)]
@@ -96,24 +63,21 @@ pub extern "C" fn vulcedar_desk_undo(
 ) -> u32
     ensures { AsUndone (desk_undo_of plan.now state.old entries.now count.old) result state.new count.new }
 {
-    let len = entries.len();
-    let e = journal::entry_at(entries, journal::last_place(*count));
-    desk_undo_result(plan, state, len, count, e)
+    results::of_done(desk_calls::undo(plan, state, entries, count))
 }
 
 #[unsafe(no_mangle)]
 pub extern "C" fn vulcedar_desk_point_undo(
     plan: &[u8],
     state: &mut [u8],
-    entries: &[[u8; 4]],
+    entries: &[Entry],
     count: &mut usize,
     names: &mut [u8],
     places: &mut [u64],
 ) -> u32
-    ensures { AsReturned (desk_point_undo_of plan.now state.old (entries_of entries.now) count.old names.old places.old) result state.new count.new names.new places.new }
+    ensures { AsReturned (desk_point_undo_of plan.now state.old entries.now count.old names.old places.old) result state.new count.new names.new places.new }
 {
-    let taken = desk_calls::point_undo(plan, state, entries, count, names, places);
-    results::packed(taken, 0)
+    results::of_done(desk_calls::point_undo(plan, state, entries, count, names, places))
 }
 
 #[unsafe(no_mangle)]
@@ -121,15 +85,14 @@ pub extern "C" fn vulcedar_desk_point_back(
     plan: &[u8],
     name: &[u8],
     state: &mut [u8],
-    entries: &[[u8; 4]],
+    entries: &[Entry],
     count: &mut usize,
     names: &mut [u8],
     places: &mut [u64],
 ) -> u32
-    ensures { AsReturned (desk_point_back_of plan.now name.now state.old (entries_of entries.now) count.old names.old places.old) result state.new count.new names.new places.new }
+    ensures { AsReturned (desk_point_back_of plan.now name.now state.old entries.now count.old names.old places.old) result state.new count.new names.new places.new }
 {
-    let back = desk_calls::point_back(plan, name, state, entries, count, names, places);
-    results::packed(back, 0)
+    results::of_done(desk_calls::point_back(plan, name, state, entries, count, names, places))
 }
 
 #[unsafe(no_mangle)]
@@ -143,7 +106,7 @@ pub extern "C" fn vulcedar_desk_record(
     ensures marks_after { marks.new ≡ (desk_record_into plan.now state.now marks.old classes.old).marks }
     ensures classes_after { classes.new ≡ (desk_record_into plan.now state.now marks.old classes.old).classes }
 {
-    results::packed(desk_calls::record(plan, state, marks, classes), 0)
+    results::of_done(desk_calls::record(plan, state, marks, classes))
 }
 
 #[unsafe(no_mangle)]
@@ -158,5 +121,5 @@ pub extern "C" fn vulcedar_desk_record_by(
     ensures marks_after { marks.new ≡ (desk_record_by_into plan.now tab.now state.now marks.old classes.old).marks }
     ensures classes_after { classes.new ≡ (desk_record_by_into plan.now tab.now state.now marks.old classes.old).classes }
 {
-    results::packed(desk_calls::record_by(plan, tab, state, marks, classes), 0)
+    results::of_done(desk_calls::record_by(plan, tab, state, marks, classes))
 }

@@ -70,6 +70,10 @@ module _ {p : List ℕ} {rows : ℕ} {two home row : List ℕ} (s : Prepared p r
 
   -- by the code's number n of nodes
   module _ (n : ℕ) (e : n ≡ nodes p) where
+    -- no more than the methods ask for
+    pub desks-few : (n ≤ 160) × (rows ≤ 160)
+    desks-few = let h = nodes-few p ok in (omega (arith, e), rows_few)
+
     pub plan-is : take (2 * n) two ≡ plain p
     plan-is = front-is p two s.front n e
 

@@ -1,12 +1,16 @@
 // A plan with desks, checked and taken apart: its plain plan and the two tables of its layout, in arrays that the caller lends. The calls on such plans
-// build on this. What is prepared is specs/Tables.antt. Of the public functions `check_into` and `prepare` have a `requires`: how long the lent arrays are,
-// and that no desk is marked yet.
+// build on this. What is prepared is specs/Tables.antt. `check_into` asks how long the lent arrays are, and that no desk is marked yet; the methods of `Desks`
+// ask that it has no more nodes and rows than a plan has.
 #![tactic(auto)]
 
-ghost use Rattle.std.specs.Prelude.{◌≡◌, true, cond, ℕ, ◌+◌, ◌*◌, ◌≤◌, ◌<◌, eqb, leb, length, take, replicate};
+ghost use Rattle.std.specs.Prelude.{◌≡◌, true, cond, ℕ, ◌+◌, ◌*◌, ◌≤◌, ◌<◌, eqb, leb, length, take, replicate, IfOk};
 ghost use Rattle.lists.specs.Seq.{table};
+ghost use Rattle.fault.specs.Number.{number_of};
 ghost use Rattle.desks.specs.Desk.{nodes, desk_of, plain, threes, desks_low, desk_check, DeskAccepted, used};
 ghost use Rattle.desk_layout.specs.Tables.{marked_below, numbered_byte, mark_of, row_byte, Prepared};
+
+use fault::Fault;
+use layout::Layout;
 
 // How many nodes a plan has, at three bytes each.
 pub fn node_count(plan: &[u8]) -> usize
@@ -42,58 +46,47 @@ fn split(plan: &[u8], two: &mut [u8], row: &mut [u8]) -> usize
 {
     let n = node_count(plan);
     let mut top = 0;
-    let mut v = 0;
-    while v < n {
+    for v in 0..n {
         let kind = plan[3 * v];
         let parent = plan[3 * v + 1];
         two[2 * v] = kind;
         two[2 * v + 1] = parent;
-        let d = plan::wide(desk_at(plan, v));
+        let d = usize::from(desk_at(plan, v));
         row[d] = 0;
         if top <= d {
             top = d + 1;
         }
-        v += 1;
     }
     top
 }
 
-// The number of the check, and a number that is above all desks in use.
-#[derive(Drop)]
-pub struct Checked {
-    pub number: u8,
-    pub top: usize,
-}
-
-// The check; where its number is 0, the plain plan is in the front of `two`, and the desks in use are marked by 0.
-pub fn check_into(plan: &[u8], two: &mut [u8], row: &mut [u8]) -> Checked
+// The check, and a number that is above all desks in use. Of an accepted plan the plain plan is then in the front of `two`, and its desks are marked by 0.
+pub fn check_into(plan: &[u8], two: &mut [u8], row: &mut [u8]) -> Result<usize, Fault>
     requires { (length two.old ≡ 320) × (row.old ≡ replicate 256 255) }
-    ensures number_value { result.number ≡ desk_check plan.now }
-    ensures two_after { result.number ≡ 0 → (take (2 * nodes plan.now) two.new ≡ plain plan.now) × (row.new ≡ table (mark_of plan.now) 256) × (result.top ≤ 160) × ((d : ℕ) → used plan.now d ≡ true → d < result.top) }
+    ensures number_value { number_of result ≡ desk_check plan.now }
+    ensures two_after { IfOk result (λ top. (take (2 * nodes plan.now) two.new ≡ plain plan.now) × (row.new ≡ table (mark_of plan.now) 256) × (top ≤ 160) × ((d : ℕ) → used plan.now d ≡ true → d < top)) }
 {
     if !length_ok(plan) {
-        return Checked { number: 1, top: 0 };
+        return Err(Fault::BadLength);
     }
     let top = split(plan, two, row);
     let n = node_count(plan);
-    let number = checker::check(&two[..2 * n]);
-    if number != 0 {
-        return Checked { number, top };
-    }
-    Checked {
-        number: if top <= 160 { 0 } else { 22 },
-        top,
+    checker::check(&two[..2 * n])?;
+    if top <= 160 {
+        Ok(top)
+    } else {
+        Err(Fault::BadDesk)
     }
 }
 
 // The check of a plan with desks.
-pub fn check(plan: &[u8]) -> u8
-    ensures { result ≡ desk_check plan.now }
+pub fn check(plan: &[u8]) -> Result<(), Fault>
+    ensures { number_of result ≡ desk_check plan.now }
 {
     let mut two = [0u8; 320];
     let mut row = [255u8; 256];
-    let found = check_into(plan, &mut two, &mut row);
-    found.number
+    check_into(plan, &mut two, &mut row)?;
+    Ok(())
 }
 
 // A marked desk's row, or the byte as it is.
@@ -118,14 +111,12 @@ fn number_rows(row: &mut [u8], top: usize) -> usize
     ensures row_after { row.new ≡ table (numbered_byte row.old top) 256 }
 {
     let mut count = 0;
-    let mut d = 0;
-    while d < top {
+    for d in 0..top {
         let b = row[d];
         row[d] = numbered(b, count);
         count = next_row(b, count);
-        d += 1;
     }
-    plan::wide(count)
+    usize::from(count)
 }
 
 // Every node's row, in the front of `home`.
@@ -134,34 +125,70 @@ fn write_homes(plan: &[u8], row: &[u8], home: &mut [u8])
     ensures { take (nodes plan.now) home.new ≡ table (λ v. row_byte plan.now (desk_of plan.now v)) (nodes plan.now) }
 {
     let n = node_count(plan);
-    let mut v = 0;
-    while v < n {
-        home[v] = row[plan::wide(desk_at(plan, v))];
-        v += 1;
+    for v in 0..n {
+        home[v] = row[usize::from(desk_at(plan, v))];
     }
 }
 
-// The number of the check, and the number of rows.
+// A plan with desks taken apart: its plain plan in the front of `two`, every node's row in the front of `home`, every desk's row, and how many nodes and
+// rows there are.
+// Its arrays have one length for all plans, and `nodes` says how much of them is used: nothing is allocated.
 #[derive(Drop)]
-pub struct Preparation {
-    pub number: u8,
+pub struct Desks {
+    pub two: [u8; 320],
+    pub home: [u8; 160],
+    pub row: [u8; 256],
+    pub nodes: usize,
     pub rows: usize,
 }
 
-// Checks a plan and, where it is accepted, leaves its plain plan and the tables of its layout.
-pub fn prepare(plan: &[u8], two: &mut [u8], home: &mut [u8], row: &mut [u8]) -> Preparation
-    requires { (length two.old ≡ 320) × (length home.old ≡ 160) × (row.old ≡ replicate 256 255) }
-    ensures number_value { result.number ≡ desk_check plan.now }
-    ensures prepared { result.number ≡ 0 → Prepared plan.now result.rows two.new home.new row.new }
-{
-    let found = check_into(plan, two, row);
-    if found.number != 0 {
-        return Preparation {
-            number: found.number,
+impl Desks {
+    // No plan yet: no desk is marked. Inlined, so that its arrays are made where they stand.
+    #[inline(always)]
+    pub fn new() -> Desks
+        ensures { result.row ≡ replicate 256 255 }
+    {
+        Desks {
+            two: [0; 320],
+            home: [0; 160],
+            row: [255; 256],
+            nodes: 0,
             rows: 0,
-        };
+        }
     }
-    let rows = number_rows(row, found.top);
-    write_homes(plan, row, home);
-    Preparation { number: 0, rows }
+
+    // Checks a plan and takes it apart, in place: handed out by value, a desk's step of a small plan took 114 nanoseconds in place of 92.
+    pub fn prepare(&mut self, plan: &[u8]) -> Result<(), Fault>
+        requires { self.old.row ≡ replicate 256 255 }
+        ensures number_value { number_of result ≡ desk_check plan.now }
+        ensures prepared { IfOk result (λ _. Prepared plan.now self.new.rows self.new.two self.new.home self.new.row) }
+        ensures counted { IfOk result (λ _. self.new.nodes ≡ nodes plan.now) }
+    {
+        let top = check_into(plan, &mut self.two, &mut self.row)?;
+        self.nodes = node_count(plan);
+        self.rows = number_rows(&mut self.row, top);
+        write_homes(plan, &self.row, &mut self.home);
+        Ok(())
+    }
+
+    // The plain plan with the tables of its layout.
+    pub fn layout(&self) -> Layout<'_>
+        requires { self.now.nodes ≤ 160 }
+        ensures { (result.plan.now ≡ take (2 * self.now.nodes) self.now.two) × (result.home.now ≡ self.now.home) × (result.row.now ≡ self.now.row) × (result.rows ≡ self.now.rows) }
+    {
+        Layout {
+            plan: &self.two[..2 * self.nodes],
+            home: &self.home,
+            row: &self.row,
+            rows: self.rows,
+        }
+    }
+
+    // The state has a byte for every node in every row.
+    pub fn fits(&self, state: &[u8]) -> bool
+        requires { (self.now.nodes ≤ 160) × (self.now.rows ≤ 160) }
+        ensures { result ≡ eqb (length state.now) (self.now.rows * self.now.nodes) }
+    {
+        state.len() == self.rows * self.nodes
+    }
 }

@@ -21,9 +21,9 @@ use Rattle.event.proofs.HostLaws.{host-in}
 use Rattle.guard.specs.Guard.{guard, holds, barred}
 use Rattle.row.specs.Row.{heard}
 use Rattle.row.proofs.RowLaws.{hear-again}
-use Rattle.site.specs.declared.Refusal.TheVariants.{Invalid, Barred, Unmet, Untrue}
-use Rattle.site.specs.declared.Verdict.{Verdict}
-use Rattle.site.specs.declared.Verdict.TheVariants.{Passed, Heard, Refused}
+use Rattle.site.specs.Verdict.{Invalid, Barred, Unmet, Untrue}
+use Rattle.site.specs.Verdict.{Verdict}
+use Rattle.site.specs.Verdict.{Passed, Heard, Refused}
 use Rattle.site.specs.Verdict.{report_of, verdict_number}
 use Rattle.site.specs.Step.{stepped, step_invalid, decide, step_at, step_of}
 use Rattle.site.proofs.StepLaws.{number-any-site}

@@ -15,9 +15,9 @@ use Rattle.guard.specs.Rule.{rule_kind, is_picked, rule_byte}
 use Rattle.central.specs.Mark.{mark_number}
 use Rattle.retention.specs.Record.{common_table, frame_ok, table_ok, table_number, class_of, above_within, nodes_above, fell, counts_above, counts_as, class, record_of, recorded}
 use Rattle.row.specs.Row.{heard_in, heard, hear, unhear}
-use Rattle.site.specs.declared.Refusal.TheVariants.{Invalid, Barred, Unmet, Untrue}
-use Rattle.site.specs.declared.Verdict.{Verdict}
-use Rattle.site.specs.declared.Verdict.TheVariants.{Passed, Heard, Refused}
+use Rattle.site.specs.Verdict.{Invalid, Barred, Unmet, Untrue}
+use Rattle.site.specs.Verdict.{Verdict}
+use Rattle.site.specs.Verdict.{Passed, Heard, Refused}
 use Rattle.site.specs.Verdict.{report_of}
 use Rattle.site.specs.Step.{stepped, step_invalid, decide, step_at}
 use Rattle.job.specs.Simulation.{row_of, with_row, step_by, simulated, state_fits, happen, tell, simulate, mark_by, mark_at, end_marks}

@@ -18,8 +18,8 @@ use Rattle.event.proofs.ValidLaws.{invalid-fit, valid}
 use Rattle.event.proofs.HostLaws.{host-in}
 use Rattle.retention.specs.Record.{table_number, recorded}
 use Rattle.row.specs.Row.{heard}
-use Rattle.site.specs.declared.Refusal.TheVariants.{Invalid}
-use Rattle.site.specs.declared.Verdict.TheVariants.{Refused}
+use Rattle.site.specs.Verdict.{Invalid}
+use Rattle.site.specs.Verdict.{Refused}
 use Rattle.site.specs.Verdict.{verdict_number}
 use Rattle.site.specs.Step.{stepped, step_invalid, site_at, step_at}
 use Rattle.site.proofs.StepLaws.{step-tested, step-invalid}

@@ -4,9 +4,9 @@ use Rattle.std.specs.Prelude.{cond, not, List, ℕ, eqb}
 use Rattle.event.specs.Event.{event_of}
 use Rattle.event.specs.Site.{host_of}
 use Rattle.retention.specs.Record.{common_table, table_number, Recorded, recorded}
-use Rattle.site.specs.declared.Refusal.TheVariants.{Invalid, Barred, Unmet, Untrue}
-use Rattle.site.specs.declared.Verdict.{Verdict}
-use Rattle.site.specs.declared.Verdict.TheVariants.{Passed, Heard, Refused}
+use Rattle.site.specs.Verdict.{Invalid, Barred, Unmet, Untrue}
+use Rattle.site.specs.Verdict.{Verdict}
+use Rattle.site.specs.Verdict.{Passed, Heard, Refused}
 use Rattle.site.specs.Step.{Stepped, stepped, step_at}
 use Rattle.job.specs.Simulation.{Simulated, simulated}
 use Rattle.simulation.specs.Run.{record_by_on}

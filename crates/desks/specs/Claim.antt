@@ -12,8 +12,8 @@ use Rattle.event.specs.Valid.{event_fault}
 use Rattle.central.specs.Central.{allowed}
 use Rattle.row.specs.Row.{heard}
 use Rattle.retention.specs.Record.{table_number}
-use Rattle.site.specs.declared.Verdict.{Verdict}
-use Rattle.site.specs.declared.Verdict.TheVariants.{Heard}
+use Rattle.site.specs.Verdict.{Verdict}
+use Rattle.site.specs.Verdict.{Heard}
 use Rattle.site.specs.Verdict.{verdict_number}
 use Rattle.site.specs.Step.{stepped, step_of}
 use Rattle.job.specs.Simulation.{row_of, simulated, row_stepped, Step, replay, passed, heard_at}

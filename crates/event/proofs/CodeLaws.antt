@@ -9,7 +9,8 @@ use borrow.Author.Tests.{ne_eqb, eqb-true, eqb-false, leb-true}
 use lib.Dec.{eqb, leb}
 use Rattle.lists.specs.Member.{In, here, there}
 use Rattle.lists.proofs.Logic.{cases, decided, and_left, and_right}
-use Rattle.plan.specs.Plan.{xor, conditional, kind_number, is_kind, kind_of}
+use Rattle.plan.specs.Plan.{kind_number, is_kind, kind_of}
+use Rattle.plan.specs.declared.kinds.Kind.TheVariants.{Xor as xor, Conditional as conditional}
 use Rattle.plan.proofs.KindLaws.{is-kind}
 use Rattle.event.specs.Event.{Code, start, offer, commit, abort, answered-yes, answered-no, pick, down, code_number, code_of, is_code, applies_by}
 use Rattle.event.specs.Site.{host_by}

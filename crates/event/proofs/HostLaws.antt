@@ -7,7 +7,8 @@ use native.Mathlib.Omega.{arith}
 use borrow.Author.Tests.{eqb-false, ltb-true}
 use lib.Dec.{eqb, ltb}
 use Rattle.lists.proofs.Logic.{and_left, and_right}
-use Rattle.plan.specs.Plan.{task, xor, kind_number, is_kind, kind, size, parent, above, in_xor}
+use Rattle.plan.specs.Plan.{kind_number, is_kind, kind, size, parent, above, in_xor}
+use Rattle.plan.specs.declared.kinds.Kind.TheVariants.{Task as task, Xor as xor}
 use Rattle.plan.specs.Check.{Accepted}
 use Rattle.event.specs.Event.{Code, start, offer, commit, abort, answered-yes, answered-no, pick, down, Event, applies_by, applies}
 use Rattle.event.specs.Site.{host_by, host_of}

@@ -1,7 +1,9 @@
 -- Events, and which of them apply to a node (rules B). Definitions only.
 use Rattle.std.specs.Prelude.{Bool, true, cond, ◌&&◌, List, ℕ, eqb, ltb, leb}
 use Rattle.lists.specs.Seq.{any}
-use Rattle.plan.specs.Plan.{Kind, conditional, is_kind, kind, size, in_xor}
+use Rattle.plan.specs.Plan.{is_kind, kind, size, in_xor}
+use Rattle.plan.specs.declared.kinds.Kind.{Kind}
+use Rattle.plan.specs.declared.kinds.Kind.TheVariants.{Conditional as conditional}
 
 -- B1: the eight codes
 pub data Code : Type 0 where

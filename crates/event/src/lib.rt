@@ -1,15 +1,20 @@
 // Events of a plan: which are known and apply, at whose site they happen, their bits in a byte, and the tests with which every call on an
-// event begins. What the words mean is specs/; one public function, `fault`, has a `requires`: its caller has checked the plan.
+// event begins. What the words mean is specs/; one public function, `check`, has a `requires`: its caller has checked the plan.
 #![tactic(auto)]
 
 ghost use Rattle.std.specs.Prelude.{◌≡◌, ◌<◌, ◌≤◌};
-ghost use Rattle.plan.specs.Plan.{kind_of, xor, is_kind, size};
+ghost use Rattle.fault.specs.Number.{number_of};
+ghost use Rattle.plan.specs.Plan.{kind_of, is_kind, size};
+ghost use Rattle.plan.specs.declared.kinds.Kind.TheVariants.{Xor as xor};
 ghost use Rattle.event.specs.Event.{code_of, event_of, applies_by, applies, known};
 ghost use Rattle.event.specs.Site.{host_of};
 ghost use Rattle.event.specs.Bit.{has_bit, with_bit, without_bit};
 ghost use Rattle.event.specs.Valid.{event_fault, invalid};
 
+use fault::Fault;
+
 // By the code; a choice also by the parent's kind, an answer by the node's own.
+// Codes and kinds are numbers, matched in ranges: a rule of the project for applicability and the guard row.
 fn applies_by(code: u8, above: u8, kind: u8) -> bool
     requires { (1 ≤ code) × (code ≤ 8) }
     ensures { result ≡ applies_by (code_of code) (kind_of kind) (is_kind xor (kind_of above)) }
@@ -95,30 +100,27 @@ pub fn without_bit(b: u8, code: u8) -> u8
     b - (1 << (code - 1))
 }
 
-// What is wrong with the event itself: 8, 9, or 0 for nothing. `sited`: the site is in the plan, whose nodes a byte can number.
-pub fn fault(plan: &[u8], sited: bool, code: u32, node: u32) -> u8
+// What is wrong with the event itself. `sited`: the site is in the plan, whose nodes a byte can number.
+pub fn check(plan: &[u8], sited: bool, code: u32, node: u32) -> Result<(), Fault>
     requires { size plan.now ≤ 160 }
-    ensures { result ≡ event_fault plan.now sited code node }
+    ensures { number_of result ≡ event_fault plan.now sited code node }
 {
     if !sited {
-        return 8;
+        return Err(Fault::NotInPlan);
     }
     if !known(plan, code, node) {
-        return 8;
+        return Err(Fault::NotInPlan);
     }
     if !applies(plan, code as u8, node as u8) {
-        return 9;
+        return Err(Fault::NotApplicable);
     }
-    0
+    Ok(())
 }
 
-// The number of the first test that fails, and 0 where none does. `fits`: the lent lengths are right; `sited`: the site is in the plan.
-pub fn validate(plan: &[u8], fits: bool, sited: bool, code: u32, node: u32) -> u8
-    ensures { result ≡ invalid plan.now fits sited code node }
+// The first test that fails. `fits`: the lent lengths are right; `sited`: the site is in the plan.
+pub fn validate(plan: &[u8], fits: bool, sited: bool, code: u32, node: u32) -> Result<(), Fault>
+    ensures { number_of result ≡ invalid plan.now fits sited code node }
 {
-    let n = checker::fit(plan, fits);
-    if n != 0 {
-        return n;
-    }
-    fault(plan, sited, code, node)
+    checker::fit(plan, fits)?;
+    check(plan, sited, code, node)
 }

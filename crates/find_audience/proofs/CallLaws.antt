@@ -1,12 +1,6 @@
 -- The answers of the call, and a list copied from the front of a local array. Assumes nothing.
-use mathlib.Core.Path.{◌≡◌, sym, ◌∙◌, ap}
-use mathlib.Core.Bool.{true}
-use mathlib.Core.List.{List, ◌++◌}
-use Prim.Native.Nat.{ℕ, ◌≤◌}
-use native.Mathlib.Nat.{zero-add}
-use lib.ListN.{length, take, drop}
+use Rattle.std.proofs.Common.{◌≡◌, sym, ◌∙◌, ap, true, List, ◌++◌, ℕ, ◌≤◌, zero-add, length, take, drop, eq-eqb, ne_eqb}
 use lib.Seq.{take-length}
-use borrow.Author.Tests.{eq-eqb, ne_eqb}
 use Rattle.lists.specs.Put.{Put}
 use Rattle.event.specs.Event.{code_of, event_of}
 use Rattle.event.specs.Valid.{invalid, Valid}

@@ -1,21 +1,12 @@
 -- Who hears, by the bytes of kinds. Assumes nothing.
-use mathlib.Core.Path.{◌≡◌, refl, sym, ◌∙◌, ap, ap₂}
-use mathlib.Core.Bool.{Bool, true, false, ◌||◌}
-use mathlib.Core.List.{List, [], ◌∷◌}
-use mathlib.Core.Logic.{◌⊎◌, inl, inr, ⊎_elim}
-use Prim.Native.Nat.{ℕ, zero, suc, ◌≤◌, ◌<◌}
-use native.Mathlib.Nat.{le_antisymm}
-use native.Mathlib.Omega.{arith}
-use Rattle.lists.proofs.Between.{between}
-use lib.Dec.{eqb, ltb}
-use lib.ListN.{length, take, drop}
-use borrow.Author.Tests.{eq-eqb, eqb-true, eqb-false, ne_eqb, le-ltb, lt-ltb}
-use Rattle.lists.specs.Seq.{keep, up_from, head_or}
-use Rattle.lists.proofs.Logic.{cases, decided, and_right, clash}
-use Rattle.plan.specs.Plan.{Kind, task, serial, contingency, conditional, kind_number, is_kind, kind_of, size, kind_byte, kind, parent, children, above_byte, above}
+use Rattle.std.proofs.Common.{◌≡◌, refl, sym, ◌∙◌, ap, ap₂, true, false, List, [], ◌∷◌, ◌⊎◌, ⊎_elim, ℕ, suc, ◌≤◌, ◌<◌, arith, ltb, length, take, drop, eq-eqb, le-ltb, lt-ltb}
+use Rattle.lists.specs.Seq.{keep, head_or}
+use Rattle.lists.proofs.Logic.{cases, decided, and_right}
+use Rattle.plan.specs.Plan.{kind_number, is_kind, size, kind, parent, children, above}
+use Rattle.plan.specs.declared.kinds.Kind.{Kind}
+use Rattle.plan.specs.declared.kinds.Kind.TheVariants.{Task as task, Serial as serial, And as and, Or as or, Xor as xor, Contingency as contingency, Conditional as conditional, Waiting as waiting}
 use Rattle.plan.specs.Check.{Accepted}
 use Rattle.plan.proofs.PlanLaws.{rising-children}
-use Rattle.plan.proofs.KindLaws.{above-byte}
 use Rattle.plan.proofs.KindLaws.{same_kind as known-kind}
 use Rattle.event.specs.Event.{down, code_of, event_of, applies_by, applies}
 use Rattle.event.proofs.CodeLaws.{code-down}
@@ -40,44 +31,6 @@ first_of d (a ∷ cs) l = refl
 beyond : (m k : ℕ) → m ≤ k → (k ≡ m → ⊥) → suc m ≤ k
 beyond m k l n = omega arith
 
-eight : (k : ℕ) → 1 < k → k ≤ 8 → (k ≡ 2 → ⊥) → (k ≡ 3 → ⊥) → (k ≡ 4 → ⊥) → (k ≡ 5 → ⊥) → (k ≡ 6 → ⊥) → (k ≡ 7 → ⊥) → k ≡ 8
-eight k a b c d e f g h = le_antisymm b (beyond 7 k (beyond 6 k (beyond 5 k (beyond 4 k (beyond 3 k (beyond 2 k a c) d) e) f) g) h)
-
--- a kind's byte is read back
-kind-back : (k : ℕ) → 1 ≤ k → k ≤ 8 → kind_number (kind_of k) ≡ k
-unfolding kind_number kind_of up_from
-kind-back k a b = between (λ k. kind_number (kind_of k)) (λ k. k) 1 8 refl k a (omega arith)
-
-same_kind : (j k : ℕ) → 1 ≤ j → j ≤ 8 → 1 ≤ k → k ≤ 8 → is_kind (kind_of j) (kind_of k) ≡ eqb j k
-unfolding is_kind
-same_kind j k a b c d = rw (kind-back j a b, kind-back k c d)
-
-task-kind : (k : ℕ) → 1 < k → k ≤ 8 → is_kind task (kind_of k) ≡ false
-unfolding is_kind kind_number
-task-kind k a b = rw (kind-back k (omega arith) b) (ne_eqb 1 k (λ z. omega arith))
-
-low-kind : (k : ℕ) → k ≤ 1 → kind_of k ≡ task
-unfolding kind_of
-low-kind zero l = refl
-low-kind (suc zero) l = refl
-low-kind (suc (suc k)) l = absurd (omega arith)
-
-low-none : (k : ℕ) (cs : List ℕ) → k ≤ 1 → ◌≡◌ {A = List ℕ} [] (start_hearers (kind_of k) cs)
-unfolding start_hearers kind_of
-low-none zero cs l = refl
-low-none (suc zero) cs l = refl
-low-none (suc (suc k)) cs l = absurd (omega arith)
-
-block-all : (k : ℕ) (cs : List ℕ) → 1 < k → k ≤ 8 → (k ≡ 2 → ⊥) → (k ≡ 6 → ⊥) → (k ≡ 7 → ⊥) → cs ≡ start_hearers (kind_of k) cs
-unfolding start_hearers kind_of
-block-all k cs a b c d e = cases (decided (eqb k 3)) (λ h. rw (eqb-true k 3 h)) (λ h.
-    cases (decided (eqb k 4)) (λ i. rw (eqb-true k 4 i)) (λ i.
-    cases (decided (eqb k 5)) (λ j. rw (eqb-true k 5 j)) (λ j.
-    let z : k ≡ 8 = last (eqb-false k 3 h) (eqb-false k 4 i) (eqb-false k 5 j) in rw z)))
-  where
-    last : (k ≡ 3 → ⊥) → (k ≡ 4 → ⊥) → (k ≡ 5 → ⊥) → k ≡ 8
-    last h i j = eight k a b c h i j d e
-
 later_second : (x y : ℕ) → x < y → later (x ∷ y ∷ []) x ≡ y ∷ []
 unfolding later keep
 later_second x y l = rw (le-ltb x x (omega arith), lt-ltb x y l)
@@ -89,63 +42,52 @@ module _ (p : List ℕ) (v : ℕ) where
   first-is : (r : ℕ) → 0 < length (children p v) → r ≡ head_or v (later (children p v) 0) → r ∷ [] ≡ take 1 (children p v)
   first-is r l e = ap (λ (x : ℕ). x ∷ []) (e ∙ ap (head_or v) none_below) ∙ first_of v (children p v) l
 
-  module _ (k : ℕ) (e : k ≡ kind_byte p v) where
-    kind-is : kind p v ≡ kind_of k
-    unfolding kind
-    kind-is = sym (ap kind_of e)
-
-    -- START
-    pub start-turn : Accepted p → v < size p → (k ≡ 2) ⊎ (k ≡ 6) → (r : ℕ) → r ≡ head_or v (later (children p v) 0) → r ∷ [] ≡ start_hearers (kind p v) (children p v)
-    unfolding start_hearers kind_of
+  -- START
+  module _ {k : Kind} (e : k ≡ kind p v) where
+    pub start-turn : Accepted p → v < size p → (k ≡ serial) ⊎ (k ≡ contingency) → (r : ℕ) → r ≡ head_or v (later (children p v) 0) → r ∷ [] ≡ start_hearers (kind p v) (children p v)
+    unfolding start_hearers
     start-turn ok l h r f =
-        let some : (j : Kind) → kind p v ≡ j → (j ≡ task → ⊥) → 0 < length (children p v) = λ j z n. ok.blocks v l (λ t. n (sym z ∙ t)) in
+        let some : (k ≡ task → ⊥) → 0 < length (children p v) = λ n. ok.blocks v l (λ t. n (e ∙ t)) in
         ⊎_elim
-        (λ q. let z : kind p v ≡ serial = kind-is ∙ rw q in rw z (first-is r (some serial z serial-block) f))
-        (λ q. let z : kind p v ≡ contingency = kind-is ∙ rw q in rw z (first-is r (some contingency z contingency-block) f))
+        (λ z. let q : kind p v ≡ serial = sym e ∙ z in rw q (first-is r (some (λ t. serial-block (sym z ∙ t))) f))
+        (λ z. let q : kind p v ≡ contingency = sym e ∙ z in rw q (first-is r (some (λ t. contingency-block (sym z ∙ t))) f))
         h
 
-    pub start_none : (k ≤ 1) ⊎ (k ≡ 7) → ◌≡◌ {A = List ℕ} [] (start_hearers (kind p v) (children p v))
-    unfolding start_hearers kind_of
-    start_none h = ⊎_elim
-        (λ q. rw (kind-is) (low k q))
-        (λ q. let z : kind p v ≡ conditional = kind-is ∙ rw q in rw z)
-        h
-      where
-        low : (k : ℕ) → k ≤ 1 → ◌≡◌ {A = List ℕ} [] (start_hearers (kind_of k) (children p v))
-        low k l = low-none k (children p v) l
+    pub start_none : (k ≡ task) ⊎ (k ≡ conditional) → (cs : List ℕ) → ◌≡◌ {A = List ℕ} [] (start_hearers (kind p v) cs)
+    unfolding start_hearers
+    start_none h cs = ⊎_elim (λ z. let q : kind p v ≡ task = sym e ∙ z in rw q) (λ z. let q : kind p v ≡ conditional = sym e ∙ z in rw q) h
 
-    pub start-all : Accepted p → v < size p → 1 < k → (k ≡ 2 → ⊥) → (k ≡ 6 → ⊥) → (k ≡ 7 → ⊥) → children p v ≡ start_hearers (kind p v) (children p v)
-    start-all ok l a b c d = rw (kind-is) (block-all k (children p v) a (rw e (ok.high v l)) b c d)
+    pub start-all : (k ≡ and) ⊎ ((k ≡ or) ⊎ ((k ≡ xor) ⊎ (k ≡ waiting))) → (cs : List ℕ) → cs ≡ start_hearers (kind p v) cs
+    unfolding start_hearers
+    start-all h cs =
+        ⊎_elim (λ z. let q : kind p v ≡ and = sym e ∙ z in rw q)
+        (λ a. ⊎_elim (λ z. let q : kind p v ≡ or = sym e ∙ z in rw q)
+        (λ b. ⊎_elim (λ z. let q : kind p v ≡ xor = sym e ∙ z in rw q) (λ z. let q : kind p v ≡ waiting = sym e ∙ z in rw q) b) a) h
 
--- AN END: k the byte of the kind above, turn that of the kind that hands the turn on
-module _ (p : List ℕ) (ok : Accepted p) (v k turn : ℕ) (low : v < size p) (e : k ≡ above_byte p v) where
+not-kind : (j k : Kind) → (j ≡ k → ⊥) → is_kind j k ≡ false
+not-kind j k h = cases (decided (is_kind j k)) (λ t. absurd (h (sym (known-kind j k t)))) (λ f. f)
+
+own-kind : (k : Kind) → is_kind k k ≡ true
+unfolding is_kind
+own-kind k = eq-eqb _ _ refl
+
+-- AN END: turn is the kind that hands the turn on
+module _ (p : List ℕ) (v : ℕ) (turn : Kind) where
   abbrev Ends : List ℕ → Type 0
-  Ends l = l ≡ end_hearers (kind_of turn) (above p v) (parent p v) (children p (parent p v)) v
+  Ends l = l ≡ end_hearers turn (above p v) (parent p v) (children p (parent p v)) v
 
-  above-is : above p v ≡ kind_of k
-  above-is = above-byte p v ∙ ap kind_of (sym e)
+  pub end_none : above p v ≡ task → Ends []
+  unfolding end_hearers
+  end_none e = rw (e, own-kind task)
 
-  pub end_none : k ≤ 1 → Ends []
-  unfolding end_hearers is_kind kind_number
-  end_none l = rw (above-is, low-kind k l)
-
-  high : k ≤ 8
-  unfolding above_byte
-  high = cases (decided (eqb v 0))
-      (λ z. let q : k ≡ 1 = e ∙ rw z in omega arith)
-      (λ z. let m = ok.below v (omega (arith, eqb-false v 0 z)) low in
-      let h = ok.high (parent p v) (omega arith) in
-      let q : k ≡ kind_byte p (parent p v) = e ∙ rw z in
-      omega arith)
-
-  module _ (a : 1 < turn) (b : turn ≤ 8) (l : 1 < k) where
-    pub end-turn : k ≡ turn → (r : ℕ) → r ≡ head_or (parent p v) (later (children p (parent p v)) v) → Ends (r ∷ [])
+  module _ (n : above p v ≡ task → ⊥) where
+    pub end-turn : above p v ≡ turn → (r : ℕ) → r ≡ head_or (parent p v) (later (children p (parent p v)) v) → Ends (r ∷ [])
     unfolding end_hearers
-    end-turn q r f = rw (above-is, task-kind k l high, same_kind turn k (omega arith) b (omega arith) high, eq-eqb turn k (sym q)) (ap (λ (x : ℕ). x ∷ []) f)
+    end-turn e r f = rw (not-kind task (above p v) (λ z. n (sym z)), e, own-kind turn) (ap (λ (x : ℕ). x ∷ []) f)
 
-    pub end-up : (k ≡ turn → ⊥) → Ends (parent p v ∷ [])
+    pub end-up : (above p v ≡ turn → ⊥) → Ends (parent p v ∷ [])
     unfolding end_hearers
-    end-up n = rw (above-is, task-kind k l high, same_kind turn k (omega arith) b (omega arith) high, ne_eqb turn k (λ z. n (sym z)))
+    end-up h = rw (not-kind task (above p v) (λ z. n (sym z)), not-kind turn (above p v) (λ z. h (sym z)))
 
 -- AN ANSWER
 module _ (p : List ℕ) (ok : Accepted p) (v : ℕ) (low : v < size p) (z : kind p v ≡ conditional) where
@@ -167,15 +109,6 @@ module _ (p : List ℕ) (ok : Accepted p) (v : ℕ) (low : v < size p) (z : kind
 pub answer-kind : (p : List ℕ) (code v : ℕ) → (code ≡ 5) ⊎ (code ≡ 6) → applies p (event_of code v) ≡ true → kind p v ≡ conditional
 unfolding applies applies_by code_of
 answer-kind p code v h a = known-kind conditional (kind p v) (⊎_elim (λ q. and_right (ltb v (size p)) _ (rw q at a)) (λ q. and_right (ltb v (size p)) _ (rw q at a)) h)
-
--- the code's tests
-pub one_of : (a b : Bool) {A B : Type 0} → (a ≡ true → A) → (b ≡ true → B) → (a || b) ≡ true → A ⊎ B
-one_of true b f g h = inl (f refl)
-one_of false b f g h = inr (g h)
-
-pub neither : (a b : Bool) → (a || b) ≡ false → (a ≡ false) × (b ≡ false)
-neither true b h = clash true refl h
-neither false b h = (refl, h)
 
 too_far : (n : ℕ) → 8 ≤ n → n ≤ 7 → ⊥
 too_far n a b = omega arith

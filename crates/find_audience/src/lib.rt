@@ -3,9 +3,10 @@
 #![tactic(auto)]
 
 ghost use Rattle.std.specs.Prelude.{◌≡◌, true, ◌<◌, ◌≤◌, length};
+ghost use Rattle.fault.specs.Number.{number_of, value_of};
 ghost use Rattle.lists.specs.Seq.{head_or};
 ghost use Rattle.lists.specs.Put.{Put};
-ghost use Rattle.plan.specs.Plan.{size, kind, parent, children, above, kind_of};
+ghost use Rattle.plan.specs.Plan.{size, kind, parent, children, above};
 ghost use Rattle.plan.specs.Check.{Accepted};
 ghost use Rattle.event.specs.Event.{code_of, event_of, applies};
 ghost use Rattle.audience.specs.Hearers.{later, start_hearers, end_hearers, hearers_by};
@@ -13,7 +14,8 @@ ghost use Rattle.audience.specs.Call.{audience_of};
 ghost use Rattle.find_audience.specs.Whom.{whom_list};
 ghost use Rattle.merge.specs.Output.{output};
 
-use merge::Answer;
+use fault::Fault;
+use plan::kinds::Kind;
 
 // Nobody, one node, or all children of a node.
 #[derive(Drop)]
@@ -29,12 +31,10 @@ fn next(plan: &[u8], u: u8, from: u8, d: u8) -> u8
     ensures { result ≡ head_or d (later (children plan.now u) from) }
 {
     let n = plan::node_count(plan);
-    let mut c = plan::wide(from) + 1;
-    while c < n {
+    for c in usize::from(from) + 1..n {
         if plan[2 * c + 1] == u {
             return c as u8;
         }
-        c += 1;
     }
     d
 }
@@ -44,27 +44,24 @@ fn on_start(plan: &[u8], v: u8) -> Whom
     requires { Accepted plan.now × (v < size plan.now) }
     ensures { whom_list plan.now result ≡ start_hearers (kind plan.now v) (children plan.now v) }
 {
-    let k = plan::kind(plan, v);
-    if (k == 2) | (k == 6) {
-        return Whom::Node(next(plan, v, 0, v));
+    match plan::node_kind(plan, v) {
+        Kind::Task | Kind::Conditional => Whom::Nobody,
+        Kind::Serial | Kind::Contingency => Whom::Node(next(plan, v, 0, v)),
+        Kind::And | Kind::Or | Kind::Xor | Kind::Waiting => Whom::ChildrenOf(v),
     }
-    if (k <= 1) | (k == 7) {
-        return Whom::Nobody;
-    }
-    Whom::ChildrenOf(v)
 }
 
-// Who hears of an end of v: 2 for a commit, 6 for an abort, the kind of block in which it hands the turn on.
-fn on_end(plan: &[u8], v: u8, turn: u8) -> Whom
-    requires { Accepted plan.now × (v < size plan.now) × (1 < turn) × (turn ≤ 8) }
-    ensures { whom_list plan.now result ≡ end_hearers (kind_of turn) (above plan.now v) (parent plan.now v) (children plan.now (parent plan.now v)) v }
+// Who hears of an end of v; `turn` is the kind of block in which it hands the turn on.
+fn on_end(plan: &[u8], v: u8, turn: Kind) -> Whom
+    requires { size plan.now ≤ 160 }
+    ensures { whom_list plan.now result ≡ end_hearers turn (above plan.now v) (parent plan.now v) (children plan.now (parent plan.now v)) v }
 {
-    let k = plan::above(plan, v);
+    let above = plan::kind_above(plan, v);
     let u = plan::parent(plan, v);
-    if k <= 1 {
+    if above == Kind::Task {
         return Whom::Nobody;
     }
-    if k == turn {
+    if above == turn {
         return Whom::Node(next(plan, u, v, u));
     }
     Whom::Node(u)
@@ -78,8 +75,8 @@ fn hearers(plan: &[u8], code: u8, v: u8) -> Whom
     match code {
         1 => on_start(plan, v),
         2 => Whom::Node(plan::parent(plan, v)),
-        3 => on_end(plan, v, 2),
-        4 => on_end(plan, v, 6),
+        3 => on_end(plan, v, Kind::Serial),
+        4 => on_end(plan, v, Kind::Contingency),
         5 => Whom::Node(next(plan, v, 0, v)),
         6 => Whom::Node(next(plan, v, next(plan, v, 0, v), v)),
         7 => Whom::ChildrenOf(plan::parent(plan, v)),
@@ -95,13 +92,11 @@ fn gather(plan: &[u8], u: u8, buf: &mut [u8]) -> usize
 {
     let n = plan::node_count(plan);
     let mut w = 0;
-    let mut c = 1;
-    while c < n {
+    for c in 1..n {
         if plan[2 * c + 1] == u {
             buf[w] = c as u8;
             w += 1;
         }
-        c += 1;
     }
     w
 }
@@ -124,26 +119,16 @@ fn put(plan: &[u8], to: Whom, buf: &mut [u8]) -> usize
 
 // The sites to tell of an event, rising, at the front of buf, and how many they are, 32 at most; the bytes behind them stay. 1 to 6 by the check,
 // 8 and 9 of the event, and 7 where buf is too short for them.
-pub fn audience(plan: &[u8], code: u32, node: u32, buf: &mut [u8]) -> Answer
-    ensures { audience_of plan.now code node buf.old ≡ output result.number result.value buf.new }
+pub fn audience(plan: &[u8], code: u32, node: u32, buf: &mut [u8]) -> Result<u16, Fault>
+    ensures { audience_of plan.now code node buf.old ≡ output (number_of result) (value_of result) buf.new }
 {
-    let bad = event::validate(plan, true, true, code, node);
-    if bad != 0 {
-        return Answer {
-            number: bad,
-            value: 0,
-        };
-    }
+    event::validate(plan, true, true, code, node)?;
     let to = hearers(plan, code as u8, node as u8);
     let mut local = [0u8; 32];
     let length = put(plan, to, &mut local);
     if buf.len() < length {
-        return Answer {
-            number: 7,
-            value: 0,
-        };
+        return Err(Fault::BadBuffer);
     }
     lists::copy(&local[..length], buf);
-    let value = length as u16;
-    Answer { number: 0, value }
+    Ok(length as u16)
 }

@@ -16,7 +16,7 @@ pub extern "C" fn vulcedar_rewrite(plan: &[u8], out: &mut [u8]) -> u32
     ensures value { result ≡ result_of (rewrite_of plan.now out.old).number 0 0 }
     ensures out_after { out.new ≡ (rewrite_of plan.now out.old).out }
 {
-    results::packed(rewrite::rewrite(plan, out), 0)
+    results::of_done(rewrite::rewrite(plan, out))
 }
 
 #[unsafe(no_mangle)]
@@ -24,7 +24,7 @@ pub extern "C" fn vulcedar_renumber(plan: &[u8], out: &mut [u8]) -> u32
     ensures value { result ≡ result_of (renumber_of plan.now out.old).number 0 0 }
     ensures out_after { out.new ≡ (renumber_of plan.now out.old).out }
 {
-    results::packed(convert::renumber(plan, out), 0)
+    results::of_done(convert::renumber(plan, out))
 }
 
 #[unsafe(no_mangle)]
@@ -32,7 +32,7 @@ pub extern "C" fn vulcedar_to_depths(plan: &[u8], out: &mut [u8]) -> u32
     ensures value { result ≡ result_of (to_depths_of plan.now out.old).number 0 0 }
     ensures out_after { out.new ≡ (to_depths_of plan.now out.old).out }
 {
-    results::packed(convert::to_depths(plan, out), 0)
+    results::of_done(convert::to_depths(plan, out))
 }
 
 #[unsafe(no_mangle)]
@@ -40,7 +40,7 @@ pub extern "C" fn vulcedar_from_depths(depths: &[u8], out: &mut [u8]) -> u32
     ensures value { result ≡ result_of (from_depths_of depths.now out.old).number 0 0 }
     ensures out_after { out.new ≡ (from_depths_of depths.now out.old).out }
 {
-    results::packed(convert::from_depths(depths, out), 0)
+    results::of_done(convert::from_depths(depths, out))
 }
 
 #[unsafe(no_mangle)]
@@ -48,8 +48,7 @@ pub extern "C" fn vulcedar_repeat(plan: &[u8], node: u32, count: u32, out: &mut 
     ensures value { result ≡ of_made (repeat_of plan.now node count out.old) }
     ensures out_after { out.new ≡ (repeat_of plan.now node count out.old).out }
 {
-    let repeated = repeat::repeat(plan, node, count, out);
-    results::with_value(repeated.number, 0, repeated.nodes)
+    results::of_value(repeat::repeat(plan, node, count, out))
 }
 
 #[unsafe(no_mangle)]
@@ -57,6 +56,5 @@ pub extern "C" fn vulcedar_next_plan(plan: &[u8], out: &mut [u8]) -> u32
     ensures value { result ≡ of_made (next_of plan.now out.old) }
     ensures out_after { out.new ≡ (next_of plan.now out.old).out }
 {
-    let next = next_plan::next_plan(plan, out);
-    results::with_value(next.number, 0, next.nodes)
+    results::of_value(next_plan::next_plan(plan, out))
 }

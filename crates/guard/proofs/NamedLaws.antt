@@ -11,7 +11,9 @@ use lib.Dec.{eqb, leb}
 use lib.ListN.{length}
 use Rattle.lists.specs.Seq.{last_or}
 use Rattle.lists.proofs.Logic.{cases, decided, clash, and_left, and_right, and-join}
-use Rattle.plan.specs.Plan.{Kind, task, serial, and, or, xor, contingency, conditional, waiting, kind_number, is_kind, kind_of, kind_byte, kind, parent, children, above, above_byte, in_xor}
+use Rattle.plan.specs.Plan.{kind_number, is_kind, kind_of, kind_byte, kind, parent, children, above, above_byte, in_xor}
+use Rattle.plan.specs.declared.kinds.Kind.{Kind}
+use Rattle.plan.specs.declared.kinds.Kind.TheVariants.{Task as task, Serial as serial, And as and, Or as or, Xor as xor, Contingency as contingency, Conditional as conditional, Waiting as waiting}
 use Rattle.plan.specs.Check.{Accepted}
 use Rattle.plan.proofs.KindLaws.{same_kind, is-kind, kind-other, kind-block, above-byte}
 use Rattle.plan.proofs.AcceptedLaws.{child-between}

@@ -9,7 +9,8 @@ use lib.Dec.{eqb, ltb, leb}
 use Rattle.lists.specs.Seq.{any, all_below}
 use Rattle.lists.proofs.Logic.{cases, decided, and_left, and_right, and-join, clash}
 use Rattle.lists.proofs.Below.{below_at}
-use Rattle.plan.specs.Plan.{xor, conditional, kind_number, is_kind, kind, size, kind_byte, parent, above_byte, in_xor}
+use Rattle.plan.specs.Plan.{kind_number, is_kind, kind, size, kind_byte, parent, above_byte, in_xor}
+use Rattle.plan.specs.declared.kinds.Kind.TheVariants.{Xor as xor, Conditional as conditional}
 use Rattle.plan.specs.Check.{Accepted}
 use Rattle.plan.proofs.KindLaws.{kind-task, above-byte, is-kind}
 use Rattle.plan.proofs.AcceptedLaws.{parent_in, parent-block}

@@ -1,7 +1,9 @@
 -- The nodes that a guard names: the children of a node, or a node's siblings (rules C2 to C6 and C8). Definitions only.
 use Rattle.std.specs.Prelude.{Bool, true, false, cond, not, ◌&&◌, List, [], ℕ, pred, eqb}
 use Rattle.lists.specs.Seq.{keep, up_from, last_or}
-use Rattle.plan.specs.Plan.{Kind, task, serial, and, or, xor, contingency, conditional, waiting, is_kind, size, kind, parent, above}
+use Rattle.plan.specs.Plan.{is_kind, size, kind, parent, above}
+use Rattle.plan.specs.declared.kinds.Kind.{Kind}
+use Rattle.plan.specs.declared.kinds.Kind.TheVariants.{Task as task, Serial as serial, And as and, Or as or, Xor as xor, Contingency as contingency, Conditional as conditional, Waiting as waiting}
 use Rattle.event.specs.Event.{Code, start, offer, commit, abort, answered-yes, answered-no, pick, down}
 use Rattle.guard.specs.Guard.{before_in}
 

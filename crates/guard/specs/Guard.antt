@@ -1,7 +1,9 @@
 -- The guard of each event, when it holds, and what bars an event (rules C and D). Definitions only.
 use Rattle.std.specs.Prelude.{Bool, cond, List, [], ◌∷◌, ◌++◌, map, ℕ, eqb}
 use Rattle.lists.specs.Seq.{all, any, last_or, head_or}
-use Rattle.plan.specs.Plan.{Kind, task, serial, and, or, xor, contingency, conditional, waiting, kind, parent, children, others, above, in_xor}
+use Rattle.plan.specs.Plan.{kind, parent, children, others, above, in_xor}
+use Rattle.plan.specs.declared.kinds.Kind.{Kind}
+use Rattle.plan.specs.declared.kinds.Kind.TheVariants.{Task as task, Serial as serial, And as and, Or as or, Xor as xor, Contingency as contingency, Conditional as conditional, Waiting as waiting}
 use Rattle.event.specs.Event.{Code, start, offer, commit, abort, answered-yes, answered-no, pick, down, Event, at}
 
 -- C1: a clause is a list of events, a guard a list of clauses

@@ -1,7 +1,9 @@
 -- The guard table: each guard as one line, its shape, by the event's code and the kinds of its node and of the node's parent (rules C2 to C8).
 -- Definitions only.
 use Rattle.std.specs.Prelude.{cond, List, ◌++◌, ℕ, eqb}
-use Rattle.plan.specs.Plan.{Kind, task, serial, and, or, xor, contingency, conditional, waiting, is_kind, kind, parent, above}
+use Rattle.plan.specs.Plan.{is_kind, kind, parent, above}
+use Rattle.plan.specs.declared.kinds.Kind.{Kind}
+use Rattle.plan.specs.declared.kinds.Kind.TheVariants.{Task as task, Serial as serial, And as and, Or as or, Xor as xor, Contingency as contingency, Conditional as conditional, Waiting as waiting}
 use Rattle.event.specs.Event.{Code, start, offer, commit, abort, answered-yes, answered-no, pick, down, code_number}
 use Rattle.guard.specs.Family.{named_nodes, neighbour}
 use Rattle.guard.specs.Put.{first_bytes, any_part, more_of}

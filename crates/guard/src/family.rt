@@ -1,6 +1,8 @@
 // The nodes that the guard of an event names: the children of its node, those of the node's parent, or none.
+// Codes and kinds are numbers, matched in ranges: a rule of the project for applicability and the guard row.
 ghost use Rattle.std.specs.Prelude.{◌≡◌, not};
-ghost use Rattle.plan.specs.Plan.{task, is_kind, kind_of};
+ghost use Rattle.plan.specs.Plan.{is_kind, kind_of};
+ghost use Rattle.plan.specs.declared.kinds.Kind.TheVariants.{Task as task};
 ghost use Rattle.event.specs.Event.{code_of};
 ghost use Rattle.guard.specs.Family.{in_turn, names_family, names_one, family_parent, left_out};
 

@@ -8,23 +8,15 @@ pub mod rule_byte;
 pub mod table;
 
 ghost use Rattle.std.specs.Prelude.{◌≡◌};
+ghost use Rattle.fault.specs.Number.{number_of, value_of};
 ghost use Rattle.guard.specs.Rule.{found_rule, rule_answer};
 
-// The rule behind a guard; with a number other than 0 there is none.
-#[derive(Drop)]
-pub struct FoundRule {
-    pub number: u8,
-    pub rule: u8,
-}
+use fault::Fault;
 
 // The rule behind the guard of an event.
-pub fn rule(plan: &[u8], code: u32, node: u32) -> FoundRule
-    ensures { rule_answer plan.now code node ≡ found_rule result.number result.rule }
+pub fn rule(plan: &[u8], code: u32, node: u32) -> Result<u8, Fault>
+    ensures { rule_answer plan.now code node ≡ found_rule (number_of result) (value_of result) }
 {
-    let number = event::validate(plan, true, true, code, node);
-    if number != 0 {
-        return FoundRule { number, rule: 0 };
-    }
-    let rule = rule_byte::rule_number(plan, code as u8, node as u8) as u8;
-    FoundRule { number, rule }
+    event::validate(plan, true, true, code, node)?;
+    Ok(rule_byte::rule_number(plan, code as u8, node as u8) as u8)
 }

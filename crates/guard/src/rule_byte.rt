@@ -1,4 +1,4 @@
-// The rule behind a guard, as a number: in an accepted plan a byte.
+// The rule behind a guard, as a number: in an accepted plan a byte. A number, since C programs get it (rule C9).
 ghost use Rattle.std.specs.Prelude.{◌≡◌, ◌≤◌};
 ghost use Rattle.event.specs.Event.{code_of, event_of};
 ghost use Rattle.guard.specs.Rule.{rule_kind, rule_byte};
@@ -25,5 +25,5 @@ pub fn rule_number(plan: &[u8], code: u8, v: u8) -> usize
     if (k == 3) & (plan::above(plan, v) == 5) {
         return 0xf3;
     }
-    16 * plan::wide(rule_kind(plan, k, v)) + plan::wide(k)
+    16 * usize::from(rule_kind(plan, k, v)) + usize::from(k)
 }

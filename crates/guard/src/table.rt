@@ -1,4 +1,5 @@
 // The guard table: what the guard of an event says, by its code and by the kinds of its node and of the node's parent.
+// Codes and kinds are numbers, matched in ranges: a rule of the project for applicability and the guard row.
 ghost use Rattle.std.specs.Prelude.{◌≡◌};
 ghost use Rattle.plan.specs.Plan.{kind_of};
 ghost use Rattle.event.specs.Event.{code_of};
@@ -6,6 +7,7 @@ ghost use Rattle.guard.specs.Shape.{shape, first_shape, later_shape, finish_shap
 
 // A line of the table, over the nodes that the guard names: [code of node] where `each` is 0, else for each of them the first `each` of [code,
 // abort, turned down]; then [any of them]. The code 0 leaves its part out.
+// Four numbers, as in the table of the rules (`shape`, specs/Shape.antt): an enum would need a case for each mixture of parts, and each reader all.
 #[derive(Clone, Copy)]
 pub struct Shape {
     pub code: u8,

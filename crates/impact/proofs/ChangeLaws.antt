@@ -2,30 +2,33 @@
 use mathlib.Core.Path.{◌≡◌, refl, sym, ◌∙◌, ap}
 use mathlib.Core.Bool.{Bool, true, false, cond, not, ◌&&◌}
 use mathlib.Core.List.{List, ◌++◌}
-use Prim.Native.Nat.{ℕ, ◌≤◌, ◌<◌}
+use Prim.Native.Nat.{ℕ, ◌*◌, ◌≤◌, ◌<◌}
 use native.Mathlib.Omega.{arith}
 use lib.Dec.{eqb}
 use lib.ListN.{length, get_or, take, drop, set, replicate, length-set}
 use borrow.Author.Tests.{eqb-true, eqb-false, ne_eqb, lt-ltb, le-ltb, le-leb, lt-leb}
-use Rattle.lists.specs.Seq.{all_below}
-use Rattle.lists.proofs.Logic.{cases, decided}
-use Rattle.lists.proofs.Parts.{copied-over, Back, back_is}
-use Rattle.plan.specs.Plan.{size, task, kind, kind_byte, is_kind, kind_number}
+use Rattle.std.specs.Bool.{Decides}
+use Rattle.std.specs.Cmp.Lexicographic.{pointwise}
+use Rattle.std.specs.Prelude.{Ok, Err}
+use Rattle.std.proofs.lemmas.Slice.Eq.{slice_eq-Decides}
+use Rattle.std.proofs.lemmas.Bool.Decides.{Decides-eqb}
+use Rattle.reach.proofs.ImpactLaws.{marks-are, are-marks}
+use Rattle.lists.proofs.Logic.{cases, decided, same_bool}
+use Rattle.lists.proofs.Parts.{Back, back_is}
+use denote.Enum.Bare.{sameb}
+use Rattle.fault.specs.declared.Fault.{Fault}
+use Rattle.fault.specs.Number.{fault_number}
+use Rattle.plan.specs.contracts.kinds.Kind.{the_type as kinds}
+use Rattle.plan.specs.declared.kinds.Kind.{Kind}
+use Rattle.pass.proofs.TableLaws.{task-told}
+use Rattle.plan.specs.Plan.{size, kind, kind_of, kind_byte, is_kind}
+use Rattle.plan.specs.declared.kinds.Kind.TheVariants.{Task as task}
 use Rattle.plan.specs.Check.{fit_number}
-use Rattle.plan.proofs.KindLaws.{kind-task, kind-block}
 use Rattle.pass.specs.Pass.{PassResult, pass_result, pass, pass_number, pass_into}
 use Rattle.pass.specs.Values.{Ready}
 use Rattle.pass.proofs.PassLaws.{fits-ready, ready-into}
 use Rattle.reach.specs.Impact.{are_marks, new_number, change_number, impact_number, impact_into}
-use Rattle.impact.specs.declared.Told.{Told}
 use Rattle.impact.specs.Change.{Changeable, change_into, ToldOf}
-
--- byte v is the same
-abbrev pub same_at : List ℕ → List ℕ → ℕ → Bool
-same_at a b v = eqb (get_or a v 0) (get_or b v 0)
-
-pub replaced : (a o s : List ℕ) (t x : ℕ) → length a ≡ length o → s ≡ take (length a) a ++ drop (length a) o → set s t x ≡ set a t x
-replaced a o s t x e q = ap (λ z. set z t x) (q ∙ copied-over a o e)
 
 -- the front of a local array, in which a function left s, is lent again
 pub lent_again : (p a s z m : List ℕ) (n : ℕ) (r : PassResult) → Back s z n → s ≡ a → pass_into p (take n (s ++ drop n z)) m ≡ r → pass_into p a m ≡ r
@@ -55,14 +58,42 @@ pub new-number-is : (p a m : List ℕ) (t x k : ℕ) (n : List ℕ) → Changeab
 new-number-is p a m t x k n r l q =
     into-number p (set a t x) m (record { accepted = r.accepted; answers = length-set a t x ∙ r.answers; marks = l; node = r.accepted.some }) k n q
 
--- what the old pass tells: s are the marks that it left in an array's front
-pub told_is : (p a m s z b : List ℕ) (n k : ℕ) (y : Bool) → Ready p a b 0 → n ≡ size p → Back s z n → pass_into p a b ≡ pass_result k s →
-    y ≡ all_below (same_at m (take n (s ++ drop n z))) n → ToldOf p a m (record { number = k; same = y })
-unfolding are_marks
-told_is p a m s z b n k y r e back q w = record {
-  number = into-number p a b r k s q;
-  same = λ o. w ∙ ap (λ j. all_below (same_at m j) n) (back_is back ∙ into-marks p a b r k s q o) ∙ ap (all_below (same_at m (pass p a).marks)) e;
-}
+-- what the old pass tells: s are the marks that it left in an array's front, y whether these are the same
+pub told_is : (p a m s z b : List ℕ) (n : ℕ) (y : Bool) → Ready p a b 0 → n ≡ size p → Back s z n → pass_into p a b ≡ pass_result 0 s →
+    length m ≡ size p → y ≡ pointwise eqb m (take n (s ++ drop n z)) → ToldOf p a m (Ok y)
+told_is p a m s z b n y r e back q l w = record { number = none; same = same_bool y (are_marks p a m) (λ t. are-marks p a m (d.0 t ∙ left)) (λ t. d.1 (marks-are p a m l r.accepted (sym none) t ∙ sym left)) }
+  where
+    none : 0 ≡ (pass p a).number
+    none = into-number p a b r 0 s q
+
+    left : take n (s ++ drop n z) ≡ (pass p a).marks
+    left = back_is back ∙ into-marks p a b r 0 s q (sym none)
+
+    d : Decides y (m ≡ take n (s ++ drop n z))
+    d = slice_eq-Decides Decides-eqb m (take n (s ++ drop n z)) y w
+
+pub told-fault : (p a m b s : List ℕ) (f : Fault) → Ready p a b 0 → pass_into p a b ≡ pass_result (fault_number f) s → ToldOf p a m (Err f)
+told-fault p a m b s f r q = record { number = into-number p a b r (fault_number f) s q; same = tt }
+
+-- whether node t is a task: k is its kind, b that it is another
+module _ (p : List ℕ) (t : ℕ) (k : Kind) (is : k ≡ kind_of (get_or p (2 * t) 0)) (b : Bool) (e : b ≡ not (sameb kinds k task)) where
+  kind-is : is_kind task (kind p t) ≡ sameb kinds k task
+  unfolding kind kind_byte
+  kind-is = ap (is_kind task) (sym is) ∙ sym (task-told k (sameb kinds k task) refl)
+
+  other : (s : Bool) → not s ≡ true → s ≡ false
+  other true h = sym h
+  other false h = refl
+
+  same : (s : Bool) → not s ≡ false → s ≡ true
+  same true h = refl
+  same false h = sym h
+
+  pub no-task : b ≡ true → is_kind task (kind p t) ≡ false
+  no-task h = kind-is ∙ other (sameb kinds k task) (sym e ∙ h)
+
+  pub a-task : b ≡ false → is_kind task (kind p t) ≡ true
+  a-task h = kind-is ∙ same (sameb kinds k task) (sym e ∙ h)
 
 -- the change by its number
 module _ (p a m : List ℕ) (t x : ℕ) where
@@ -75,17 +106,14 @@ module _ (p a m : List ℕ) (t x : ℕ) where
   change-done e = rw e
 
 -- case by case
-module _ (p a m : List ℕ) (t x : ℕ) (told : Told) (r : Changeable p a t) (l : length m ≡ size p) (h : ToldOf p a m told) where
-  pub change-old : (told.number ≡ 0 → ⊥) → change_into p a m t x ≡ pass_result told.number m
-  change-old n = change-refused p a m t x told.number number n
+module _ (p a m : List ℕ) (t x : ℕ) (r : Changeable p a t) (l : length m ≡ size p) where
+  pub change-old : (k : ℕ) → k ≡ (pass p a).number → (k ≡ 0 → ⊥) → change_into p a m t x ≡ pass_result k m
+  change-old k e n = change-refused p a m t x k number n
     where
-      number : change_number p a m t x ≡ told.number
-      number = unfold change_number in rw (← h.number, ne_eqb told.number 0 n)
+      number : change_number p a m t x ≡ k
+      number = unfold change_number in rw (← e, ne_eqb k 0 n)
 
-  module _ (z : told.number ≡ 0) where
-    old-none : (pass p a).number ≡ 0
-    old-none = sym h.number ∙ z
-
+  module _ (old-none : (pass p a).number ≡ 0) where
     pub change-wide : 255 < x → change_into p a m t x ≡ pass_result 13 m
     change-wide w = change-refused p a m t x 13 number (λ e. omega arith)
       where
@@ -103,13 +131,13 @@ module _ (p a m : List ℕ) (t x : ℕ) (told : Told) (r : Changeable p a t) (l 
           number : change_number p a m t x ≡ k
           number = unfold change_number in rw (old-none, new_is ∙ sym q, ne_eqb k 0 n)
 
-      pub change-marks : (k : ℕ) → k ≡ (pass p (set a t x)).number → k ≡ 0 → told.same ≡ false → change_into p a m t x ≡ pass_result 28 m
+      pub change-marks : (k : ℕ) → k ≡ (pass p (set a t x)).number → k ≡ 0 → are_marks p a m ≡ false → change_into p a m t x ≡ pass_result 28 m
       change-marks k q n w = change-refused p a m t x 28 number (λ e. omega arith)
         where
           number : change_number p a m t x ≡ 28
-          number = unfold change_number in rw (old-none, new_is ∙ sym q ∙ n, sym (h.same old-none) ∙ w)
+          number = unfold change_number in rw (old-none, new_is ∙ sym q ∙ n, w)
 
-      pub change-same : (k : ℕ) (n : List ℕ) → told.same ≡ true → pass_into p (set a t x) m ≡ pass_result k n → change_into p a m t x ≡ pass_result k n
+      pub change-same : (k : ℕ) (n : List ℕ) → are_marks p a m ≡ true → pass_into p (set a t x) m ≡ pass_result k n → change_into p a m t x ≡ pass_result k n
       change-same k n w q = cases (decided (eqb k 0))
           (λ e. change-done p a m t x (number (sym new ∙ eqb-true k 0 e))
           ∙ λ i. record { number = sym (eqb-true k 0 e) i; marks = sym (into-marks p (set a t x) m ready k n q (sym new ∙ eqb-true k 0 e)) i })
@@ -122,7 +150,7 @@ module _ (p a m : List ℕ) (t x : ℕ) (told : Told) (r : Changeable p a t) (l 
           new = into-number p (set a t x) m ready k n q
 
           number : (pass p (set a t x)).number ≡ 0 → change_number p a m t x ≡ 0
-          number z = unfold change_number in rw (old-none, new_is ∙ z, sym (h.same old-none) ∙ w)
+          number z = unfold change_number in rw (old-none, new_is ∙ z, w)
 
           left : ((pass p (set a t x)).number ≡ 0 → ⊥) → n ≡ m
           left z = sym (ap (λ y. y.marks) (sym (ready-into p (set a t x) m ready) ∙ q)) ∙ rw (ne_eqb (pass p (set a t x)).number 0 z)
@@ -157,21 +185,15 @@ module _ (p a m : List ℕ) (t x k n : ℕ) (count : n ≡ size p) (told : k ≡
       pub impact-changeable : Changeable p a t
       impact-changeable = record { accepted = impact-ready.accepted; answers = impact-ready.answers; node = omega arith }
 
-      not-task : (kind_byte p t ≡ 1 → ⊥) → is_kind task (kind p t) ≡ false
-      unfolding kind
-      not-task ne =
-          let low = impact-ready.accepted.low t (omega arith) in
-          kind-block (kind_byte p t) (omega arith) (impact-ready.accepted.high t (omega arith))
-
-      pub impact-no-task : (kind_byte p t ≡ 1 → ⊥) → impact_into p a m t x ≡ pass_result 9 m
-      impact-no-task ne = impact-refused 9 number (λ e. omega arith)
+      pub impact-no-task : is_kind task (kind p t) ≡ false → impact_into p a m t x ≡ pass_result 9 m
+      impact-no-task not-task = impact-refused 9 number (λ e. omega arith)
         where
           number : impact_number p a m t x ≡ 9
-          number = unfold impact_number in rw (fit-number ∙ none, lt-ltb t (size p) (omega arith), not-task ne)
+          number = unfold impact_number in rw (fit-number ∙ none, lt-ltb t (size p) (omega arith), not-task)
 
-      pub impact-change : kind_byte p t ≡ 1 → impact_into p a m t x ≡ change_into p a m t x
+      pub impact-change : is_kind task (kind p t) ≡ true → impact_into p a m t x ≡ change_into p a m t x
       unfolding impact_into change_into
       impact-change e = rw number
         where
           number : impact_number p a m t x ≡ change_number p a m t x
-          number = unfold impact_number is_kind kind_number in rw (fit-number ∙ none, lt-ltb t (size p) (omega arith), kind-task p t e)
+          number = unfold impact_number in rw (fit-number ∙ none, lt-ltb t (size p) (omega arith), e)

@@ -16,8 +16,8 @@ use Rattle.event.specs.Site.{Layout, Housed, site_of}
 use Rattle.event.specs.Valid.{event_fault, invalid}
 use Rattle.event.proofs.ValidLaws.{invalid-fit}
 use Rattle.row.specs.Row.{heard, hear}
-use Rattle.site.specs.declared.Refusal.TheVariants.{Invalid}
-use Rattle.site.specs.declared.Verdict.TheVariants.{Refused}
+use Rattle.site.specs.Verdict.{Invalid}
+use Rattle.site.specs.Verdict.{Refused}
 use Rattle.site.specs.Verdict.{report_of, verdict_number}
 use Rattle.site.specs.Step.{step_invalid, step_at}
 use Rattle.row.proofs.RowLaws.{hear-again}

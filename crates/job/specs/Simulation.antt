@@ -8,9 +8,9 @@ use Rattle.event.specs.Site.{Layout, site_of}
 use Rattle.event.specs.Valid.{invalid}
 use Rattle.central.specs.Mark.{Mark, idle, running, offered, committed, failed, turned_down, mark_number}
 use Rattle.row.specs.Row.{heard, hear}
-use Rattle.site.specs.declared.Refusal.TheVariants.{Invalid, Untrue}
-use Rattle.site.specs.declared.Verdict.{Verdict}
-use Rattle.site.specs.declared.Verdict.TheVariants.{Heard, Refused}
+use Rattle.site.specs.Verdict.{Invalid, Untrue}
+use Rattle.site.specs.Verdict.{Verdict}
+use Rattle.site.specs.Verdict.{Heard, Refused}
 use Rattle.site.specs.Verdict.{verdict_number}
 use Rattle.site.specs.Step.{Stepped, step_at}
 

@@ -20,8 +20,8 @@ use Rattle.event.specs.Valid.{event_fault, invalid, Valid}
 use Rattle.event.proofs.BitLaws.{with-without}
 use Rattle.event.proofs.ValidLaws.{invalid-fault, valid}
 use Rattle.row.specs.Row.{heard_in, hear}
-use Rattle.site.specs.declared.Refusal.TheVariants.{Invalid}
-use Rattle.site.specs.declared.Verdict.TheVariants.{Refused}
+use Rattle.site.specs.Verdict.{Invalid}
+use Rattle.site.specs.Verdict.{Refused}
 use Rattle.site.specs.Verdict.{report_of, verdict_number}
 use Rattle.lists.specs.Bytes.{Bytes}
 use Rattle.job.specs.Simulation.{row_of, with_row, step_by, Simulated, simulated, state_fits, happen, tell, simulate}

@@ -6,8 +6,8 @@ use Rattle.event.specs.Event.{event_of}
 use Rattle.event.specs.Site.{Layout, site_of}
 use Rattle.event.specs.Valid.{event_fault}
 use Rattle.row.specs.Row.{heard_in, unhear}
-use Rattle.site.specs.declared.Refusal.TheVariants.{Invalid}
-use Rattle.site.specs.declared.Verdict.TheVariants.{Refused}
+use Rattle.site.specs.Verdict.{Invalid}
+use Rattle.site.specs.Verdict.{Refused}
 use Rattle.site.specs.Verdict.{verdict_number}
 use Rattle.job.specs.Simulation.{row_of, with_row, Step, step_by, Simulated, simulated, state_fits, simulate}
 use Rattle.journal.specs.declared.Entry.{Entry}

@@ -1,8 +1,7 @@
 -- The last entry taken back: where its bit is, and each answer. Assumes nothing.
-use mathlib.Core.Path.{◌≡◌, sym, ◌∙◌}
-use mathlib.Core.List.{List}
-use Prim.Native.Nat.{ℕ, ◌+◌, ◌*◌, ◌-◌, ◌≤◌, ◌<◌}
-use borrow.Author.Tests.{eq-eqb, ne_eqb, ltb-true, le-leb}
+use Rattle.std.proofs.Common.{◌≡◌, sym, ◌∙◌, List, ℕ, ◌+◌, ◌*◌, ◌-◌, ◌≤◌, ◌<◌, Some, None, slice_get, arith}
+use Rattle.std.proofs.lemmas.Option.{none-some, slice_get-get_or, get_or_from_slice_get}
+use borrow.Author.Tests.{eq-eqb, ne_eqb, eqb-true, eqb-false, ltb-true, le-leb}
 use lib.Dec.{eqb}
 use lib.ListN.{length, get_or, set}
 use Rattle.lists.proofs.Logic.{cases, decided, and-join}
@@ -19,6 +18,12 @@ use Rattle.layout.specs.Layout.{Laid}
 use Rattle.layout.proofs.StepLaws.{row-spot}
 use Rattle.journal.specs.declared.Entry.{Entry}
 use Rattle.journal.specs.Journal.{no_entry, target, sited, entry_fault, undo_fits, undo_number, taken_back, undone, undo_of}
+
+-- where there is no last entry, none is kept
+none-left : (es : List Entry) (k : ℕ) → k ≤ length es → (0 < k → None ≡ slice_get es (k - 1)) → k ≡ 0
+none-left es k within last = cases (decided (eqb k 0))
+    (λ z. eqb-true k 0 z)
+    (λ z. let l : 0 < k = (let ne = eqb-false k 0 z in omega arith) in absurd (none-some _ (last l ∙ slice_get-get_or es (k - 1) no_entry (omega arith))))
 
 module _ (p : List ℕ) (lay : Layout) (row : ℕ → ℕ) (st : List ℕ) (laid : Laid p lay st) (e : Entry) where
   -- AN ENTRY in which nothing is wrong
@@ -46,20 +51,26 @@ module _ (p : List ℕ) (lay : Layout) (row : ℕ → ℕ) (st : List ℕ) (laid
   unfolding taken_back
   taken_none c = rw c
 
-  -- THE LAST of len entries es
-  module _ (es : List Entry) (k len : ℕ) (long : length es ≡ len) (within : k ≤ len) (last : get_or es (k - 1) no_entry ≡ e) where
+  -- THE LAST of k entries
+  module _ (es : List Entry) (k : ℕ) (within : k ≤ length es) where
     fits : undo_fits p lay row st es k ≡ 0
     unfolding undo_fits state_fits
-    fits = (fit-exact p _).none.1 (laid.plan, and-join _ _ (eq-eqb (length st) (lay.rows * size p) laid.long) (le-leb k (length es) (rw long within)))
+    fits = (fit-exact p _).none.1 (laid.plan, and-join _ _ (eq-eqb (length st) (lay.rows * size p) laid.long) (le-leb k (length es) within))
 
-    pub undo-none : k ≡ 0 → undo_of p lay row st es k ≡ undone 16 st k
+    pub undo-none : (0 < k → None ≡ slice_get es (k - 1)) → undo_of p lay row st es k ≡ undone 16 st k
     unfolding undo_of undo_number
-    undo-none z = rw (fits, eq-eqb k 0 z)
+    undo-none last = let z : k ≡ 0 = none-left es k within last in rw (fits, eq-eqb k 0 z)
 
-    module _ (some : k ≡ 0 → ⊥) where
+    module _ (none : k ≡ 0 → Some e ≡ None) (last : 0 < k → Some e ≡ slice_get es (k - 1)) where
+      pub some : k ≡ 0 → ⊥
+      some z = none-some e (sym (none z))
+
+      is_last : get_or es (k - 1) no_entry ≡ e
+      is_last = get_or_from_slice_get es (k - 1) e no_entry (sym (last (let s = some in omega arith)))
+
       number_is : undo_number p lay row st es k ≡ entry_fault p lay row e
       unfolding undo_number
-      number_is = rw (fits, ne_eqb k 0 some, last)
+      number_is = rw (fits, ne_eqb k 0 some, is_last)
 
       pub undo-bad : (n : ℕ) → n ≡ entry_fault p lay row e → (n ≡ 0 → ⊥) → undo_of p lay row st es k ≡ undone n st k
       unfolding undo_of
@@ -67,4 +78,4 @@ module _ (p : List ℕ) (lay : Layout) (row : ℕ → ℕ) (st : List ℕ) (laid
 
       pub undo-done : entry_fault p lay row e ≡ 0 → (st' : List ℕ) → st' ≡ taken_back p lay row st e → undo_of p lay row st es k ≡ undone 0 st' (k - 1)
       unfolding undo_of
-      undo-done fine st' is = rw (number_is, fine, last, is)
+      undo-done fine st' is = rw (number_is, fine, is_last, is)

@@ -19,9 +19,9 @@ use Rattle.event.proofs.CodeLaws.{code-number}
 use Rattle.event.proofs.ValidLaws.{Faultless, faultless, invalid-fault}
 use Rattle.row.specs.Row.{heard_in, heard}
 use Rattle.site.specs.Step.{stepped, step_invalid, decide, step_at}
-use Rattle.site.specs.declared.Refusal.TheVariants.{Invalid, Untrue}
-use Rattle.site.specs.declared.Verdict.{Verdict}
-use Rattle.site.specs.declared.Verdict.TheVariants.{Heard, Refused}
+use Rattle.site.specs.Verdict.{Invalid, Untrue}
+use Rattle.site.specs.Verdict.{Verdict}
+use Rattle.site.specs.Verdict.{Heard, Refused}
 use Rattle.site.proofs.StepLaws.{step-valid}
 use Rattle.runs.proofs.Full.{site-in}
 use Rattle.job.specs.Simulation.{row_of, with_row, step_by, simulated, state_fits, happen, tell, simulate}

@@ -17,6 +17,9 @@ pub via-past : (t : List ℕ) (i : ℕ) → length t ≤ i → via t i ≡ i
 unfolding via
 via-past t i l = rw (le-ltb i (length t) l)
 
+pub no-table : via [] ≡ (λ q. q)
+no-table = fun_ext (λ q. via-past [] q (omega arith))
+
 pub own-by-none : OwnByNone
 unfolding layout_by own
-own-by-none p = ap (λ (h : ℕ → ℕ). record { rows = size p; home = h }) (fun_ext (λ v. via-past [] v (omega arith)))
+own-by-none p = ap (λ (h : ℕ → ℕ). record { rows = size p; home = h }) no-table

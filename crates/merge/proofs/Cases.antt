@@ -1,7 +1,5 @@
 -- Worked mergings in plan P, 02ff 0100 0500 0102 0102 0100: what is new, a repeat, an older row, damaged rows, lengths. Assumes nothing.
-use mathlib.Core.Path.{◌≡◌, refl}
-use mathlib.Core.List.{List, [], ◌∷◌, map}
-use Prim.Native.Nat.{ℕ}
+use Rattle.std.proofs.Common.{◌≡◌, refl, List, [], ◌∷◌, map, ℕ}
 use Rattle.lists.specs.Seq.{all, keep, up_from, all_below, table}
 use Rattle.plan.specs.Plan.{kind_number, is_kind, kind_of, size, kind_byte, kind, parent, above_byte, children_below, children, child_count, above, in_xor, depth_within, depth}
 use Rattle.plan.specs.Check.{length_ok, kind_ok, parent_ok, under_block, fits, count_ok, depth_ok, at_all, check_number, fit_number}

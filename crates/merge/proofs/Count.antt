@@ -1,11 +1,6 @@
 -- How many of a list pass a test, and tests over the lists of all numbers below a bound. Assumes nothing.
-use mathlib.Core.Path.{◌≡◌, refl, sym, ◌∙◌, ap}
-use mathlib.Core.Bool.{Bool, true, false, cond, ◌&&◌, ◌||◌, not}
-use mathlib.Core.List.{List, [], ◌∷◌, ◌++◌, map, append_assoc, append-nil}
+use Rattle.std.proofs.Common.{◌≡◌, refl, sym, ◌∙◌, ap, Bool, true, false, cond, ◌&&◌, ◌||◌, not, List, [], ◌∷◌, ◌++◌, map, append_assoc, append-nil, ℕ, zero, suc, ◌+◌, arith, length, length-append}
 use Rattle.std.specs.List.{flat_map}
-use Prim.Native.Nat.{ℕ, zero, suc, ◌+◌}
-use native.Mathlib.Omega.{arith}
-use lib.ListN.{length, length-append}
 use Rattle.lists.specs.Seq.{all, keep, up_from, all_below, sum_below}
 use Rattle.lists.proofs.Members.{all_append}
 use Rattle.lists.proofs.Table.{up_suc}

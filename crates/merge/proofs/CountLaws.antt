@@ -1,14 +1,7 @@
 -- How many events are new, in a byte and in a row. Assumes nothing.
-use mathlib.Core.Path.{◌≡◌, refl, sym, ◌∙◌, ap, fun_ext}
-use mathlib.Core.Bool.{Bool, true, ◌&&◌, not}
-use mathlib.Core.List.{List}
-use Prim.Native.Nat.{ℕ, ◌≤◌, ◌<◌}
-use native.Mathlib.Omega.{arith}
-use lib.Bits.{bit_or, bit_xor}
+use Rattle.std.proofs.Common.{◌≡◌, refl, sym, ◌∙◌, ap, Bool, true, ◌&&◌, not, List, ℕ, ◌≤◌, ◌<◌, arith, bit_or, bit_xor, eqb, length, get_or, eqb-true}
+use mathlib.Core.Path.{fun_ext}
 use lib.Count.{ones, ones_in}
-use lib.Dec.{eqb}
-use lib.ListN.{length, get_or}
-use borrow.Author.Tests.{eqb-true}
 use Rattle.lists.specs.Seq.{all, keep, up_from, sum_below}
 use Rattle.merge.proofs.Count.{count_map, count-below}
 use Rattle.lists.proofs.Keep.{keep-short, keep_same}

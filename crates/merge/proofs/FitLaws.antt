@@ -1,18 +1,15 @@
 -- Which bits a node's byte may have: computed for all bytes, and then by the node's place. Assumes nothing.
-use mathlib.Core.Path.{◌≡◌, refl, sym, ◌∙◌, ap, fun_ext}
-use mathlib.Core.Bool.{Bool, true, false, ◌&&◌, ◌||◌, not, beq}
-use mathlib.Core.List.{List, [], ◌∷◌}
-use Prim.Native.Nat.{ℕ, zero, suc, ◌<◌}
-use native.Mathlib.Omega.{arith}
-use lib.Bits.{bit_or}
-use lib.Dec.{eqb}
-use lib.ListN.{get_or}
-use borrow.Author.Tests.{lt-ltb}
+use Rattle.std.proofs.Common.{◌≡◌, refl, sym, ◌∙◌, ap, Bool, true, false, ◌&&◌, ◌||◌, not, List, [], ◌∷◌, ℕ, zero, suc, ◌<◌, arith, bit_or, get_or, lt-ltb}
+use mathlib.Core.Path.{fun_ext}
+use mathlib.Core.Bool.{beq}
 use Rattle.lists.specs.Seq.{all, up_from, all_below}
 use Rattle.merge.proofs.Count.{all-below}
 use Rattle.lists.proofs.Members.{all-at, in-up}
-use Rattle.plan.specs.Plan.{Kind, xor, conditional, kind_number, is_kind, size, kind_byte, kind, above_byte, in_xor}
-use Rattle.plan.proofs.KindLaws.{above-byte, is-kind}
+use Rattle.plan.specs.Plan.{kind_number, is_kind, size, kind, in_xor, above}
+use Rattle.plan.specs.declared.kinds.Kind.{Kind}
+use Rattle.plan.specs.declared.kinds.Kind.TheVariants.{Task as task, Serial as serial, And as and, Or as or, Xor as xor, Contingency as contingency, Conditional as conditional, Waiting as waiting}
+use Rattle.plan.specs.contracts.kinds.Kind.{the_type as kinds}
+use denote.Enum.Bare.{sameb}
 use Rattle.event.specs.Event.{Code, start, offer, commit, abort, answered-yes, answered-no, pick, down, code_number, code_of, is_code, event_of, applies_by, applies}
 use Rattle.event.specs.Bit.{weight, has_bit}
 use Rattle.event.proofs.BitLaws.{beq-true}
@@ -57,20 +54,36 @@ applies-placed k x answered-no = refl
 applies-placed k x pick = refl
 applies-placed k x down = refl
 
-xor-byte : (p : List ℕ) (v : ℕ) → in_xor p v ≡ eqb (above_byte p v) 5
-unfolding in_xor kind_number
-xor-byte p v = ap (is_kind xor) (above-byte p v) ∙ is-kind xor (above_byte p v) (omega arith)
+-- what `==` says of a kind
+pub xor-told : (k : Kind) {b : Bool} → b ≡ sameb kinds k xor → b ≡ is_kind xor k
+unfolding is_kind kind_number
+xor-told task e = e
+xor-told serial e = e
+xor-told and e = e
+xor-told or e = e
+xor-told xor e = e
+xor-told contingency e = e
+xor-told conditional e = e
+xor-told waiting e = e
 
-cond_byte : (p : List ℕ) (v : ℕ) → is_kind conditional (kind p v) ≡ eqb (kind_byte p v) 7
-unfolding kind kind_number
-cond_byte p v = is-kind conditional (kind_byte p v) (omega arith)
+pub conditional-told : (k : Kind) {b : Bool} → b ≡ sameb kinds k conditional → b ≡ is_kind conditional k
+unfolding is_kind kind_number
+conditional-told task e = e
+conditional-told serial e = e
+conditional-told and e = e
+conditional-told or e = e
+conditional-told xor e = e
+conditional-told contingency e = e
+conditional-told conditional e = e
+conditional-told waiting e = e
 
 placed-byte : (p : List ℕ) (v b : ℕ) → v < size p → byte_applies p v b ≡ fits8 (in_xor p v) (is_kind conditional (kind p v)) b
 unfolding byte_applies fits8 applies
 placed-byte p v b l = simp (lt-ltb v (size p) l, applies-placed)
 
-pub byte-placed : (p : List ℕ) (v b : ℕ) → v < size p → b < 256 → byte_applies p v b ≡ byte_fits (eqb (above_byte p v) 5) (eqb (kind_byte p v) 7) b
-byte-placed p v b l m = placed-byte p v b l ∙ fits-table (in_xor p v) (is_kind conditional (kind p v)) b m ∙ rw (xor-byte p v, cond_byte p v)
+pub byte-placed : (p : List ℕ) (v b : ℕ) → v < size p → b < 256 → byte_applies p v b ≡ byte_fits (is_kind xor (above p v)) (is_kind conditional (kind p v)) b
+unfolding in_xor
+byte-placed p v b l m = placed-byte p v b l ∙ fits-table (in_xor p v) (is_kind conditional (kind p v)) b m
 
 -- a row's events are its bytes' bits
 applies-at : (p row : List ℕ) (v : ℕ) → all (λ e. not (heard row e) || applies p e) (events_at v) ≡ byte_applies p v (get_or row v 0)

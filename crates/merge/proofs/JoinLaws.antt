@@ -1,17 +1,7 @@
 -- A loop that merges a row in place: below i it is merged, from i on as it was; and the answers of the whole call. Assumes nothing.
-use mathlib.Core.Path.{◌≡◌, refl, sym, ◌∙◌, ap, ap₂}
-use mathlib.Core.Bool.{Bool, true, false, ◌&&◌}
-use mathlib.Core.List.{List}
-use Prim.Native.Nat.{ℕ, ◌+◌, ◌*◌, ◌≤◌, ◌<◌}
-use native.Mathlib.Nat.{le_antisymm}
-use native.Mathlib.Numerals.{add-one}
-use native.Mathlib.Omega.{arith}
-use lib.Bits.{bit_or}
-use lib.Dec.{eqb}
-use lib.ListN.{length, get_or, set, length-set}
-use lib.Seq.{get_or-set_same, get_or-set_other}
-use borrow.Author.Tests.{eqb-true, eqb-false, eq-eqb, ne_eqb}
-use Rattle.lists.specs.Seq.{all_below, sum_below}
+use Rattle.std.proofs.Common.{◌≡◌, refl, ◌∙◌, ap, ap₂, true, false, ◌&&◌, List, ℕ, ◌+◌, ◌*◌, ◌≤◌, ◌<◌, le_antisymm, add-one, arith, bit_or, eqb, length, get_or, set, length-set, get_or-set_same, get_or-set_other, eqb-true, ne_eqb}
+use borrow.Author.Tests.{eqb-false}
+use Rattle.lists.specs.Seq.{sum_below}
 use Rattle.lists.proofs.Logic.{cases, decided, and_left, and_right}
 use Rattle.lists.proofs.Table.{table-by}
 use Rattle.plan.specs.Plan.{size}
@@ -21,15 +11,6 @@ use Rattle.merge.specs.Output.{output}
 use Rattle.merge.specs.Merge.{merged, row_applies, rows_fit, merge_number, merge_of}
 use Rattle.merge.specs.Bytes.{new_bits, new_below}
 use Rattle.merge.proofs.CountLaws.{new-below, new-few}
-
--- a loop that tries a test node by node, and runs on behind a failed one
-module _ (f : ℕ → Bool) (v : ℕ) where
-  pub turn-and : (b r : Bool) → b ≡ all_below f v → r ≡ f v → (b && r) ≡ all_below f (v + 1)
-  unfolding all_below
-  turn-and b r i e = rw (add-one, i, e)
-
-  pub turn-all : (b : Bool) (n : ℕ) → b ≡ all_below f v → v ≤ n → n ≤ v → b ≡ all_below f n
-  turn-all b n i l m = let e : v ≡ n = le_antisymm l m in rw (← e) i
 
 -- k bits were new below i
 pub record Joining (row₀ other row : List ℕ) (k i : ℕ) : Type 0 where
@@ -68,14 +49,19 @@ module _ (row₀ other : List ℕ) where
   join-count row k i t l = let z : i ≡ length row₀ = le_antisymm t.within l in t.counted ∙ ap (new_below row₀ other) z
 
 -- THE CALL
-module _ (p row other : List ℕ) (n : ℕ) (e : n ≡ fit_number p (rows_fit p row other)) where
-  pub merge-refused : (n ≡ 0 → ⊥) → merge_of p row other ≡ output n 0 row
-  unfolding merge_of merge_number
-  merge-refused h = rw (← e, ne_eqb n 0 h, ne_eqb n 0 h)
+module _ (p row other : List ℕ) where
+  -- what the check of the lengths answered
+  pub fit-rows : {m n : ℕ} → m ≡ fit_number p (eqb (length row) n && eqb (length other) n) → n ≡ size p → m ≡ fit_number p (rows_fit p row other)
+  unfolding rows_fit
+  fit-rows h e = h ∙ rw e
 
-  module _ (z : n ≡ 0) where
+  pub merge-refused : (n : ℕ) → n ≡ fit_number p (rows_fit p row other) → (n ≡ 0 → ⊥) → merge_of p row other ≡ output n 0 row
+  unfolding merge_of merge_number
+  merge-refused n e h = rw (← e, ne_eqb n 0 h, ne_eqb n 0 h)
+
+  module _ (z : fit_number p (rows_fit p row other) ≡ 0) where
     fit : Accepted p × (rows_fit p row other ≡ true)
-    fit = (fit-exact p (rows_fit p row other)).none.0 (sym e ∙ z)
+    fit = (fit-exact p (rows_fit p row other)).none.0 z
 
     pub merge-few : size p ≤ 160
     merge-few = fit.0.few
@@ -90,9 +76,9 @@ module _ (p row other : List ℕ) (n : ℕ) (e : n ≡ fit_number p (rows_fit p 
 
     pub merge-strange : (row_applies p row && row_applies p other) ≡ false → merge_of p row other ≡ output 9 0 row
     unfolding merge_of merge_number
-    merge-strange h = rw (← e, eq-eqb n 0 z, h)
+    merge-strange h = rw (z, h)
 
     pub merge-done : (row_applies p row && row_applies p other) ≡ true → (new : List ℕ) (k : ℕ) → new ≡ merged row other → k ≡ new_below row other (length row) →
         merge_of p row other ≡ output 0 k new
     unfolding merge_of merge_number
-    merge-done h new k w c = rw (← e, eq-eqb n 0 z, h, w, c, merge-row, new-below p row other)
+    merge-done h new k w c = rw (z, h, w, c, merge-row, new-below p row other)

@@ -1,7 +1,6 @@
 -- The theorem of this crate: the claim of specs/Claim.antt. Assumes nothing.
-use mathlib.Core.Path.{sym, ◌∙◌}
+use Rattle.std.proofs.Common.{sym, ◌∙◌, inl, inr}
 use mathlib.Core.Bool.{or_self, or_comm, or_assoc}
-use mathlib.Core.Logic.{inl, inr}
 use Rattle.lists.proofs.Logic.{cases, either}
 use Rattle.row.specs.Row.{heard}
 use Rattle.merge.specs.Merge.{merged}

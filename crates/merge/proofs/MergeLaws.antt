@@ -1,14 +1,6 @@
 -- Merged rows: what they have heard, and that merging is a join. Assumes nothing.
-use mathlib.Core.Path.{◌≡◌, sym, ◌∙◌, ap, ap₂}
-use mathlib.Core.Bool.{true, false, ◌||◌}
-use mathlib.Core.List.{List}
-use Prim.Native.Nat.{ℕ, ◌≤◌, ◌<◌}
-use lib.Bits.{bit_or}
-use lib.Dec.{ltb}
-use lib.ListN.{length, get_or, get_or-eq_default}
-use lib.Seq.{ext_get_or}
-use borrow.Author.Tests.{ltb-true, ltb-false}
-use native.Mathlib.Omega.{arith}
+use Rattle.std.proofs.Common.{◌≡◌, sym, ◌∙◌, ap, ap₂, true, false, ◌||◌, List, ℕ, ◌≤◌, ◌<◌, bit_or, ltb, length, get_or, ext_get_or, ltb-true, ltb-false, arith}
+use lib.ListN.{get_or-eq_default}
 use Rattle.lists.proofs.Logic.{cases, clash, decided}
 use Rattle.lists.proofs.Table.{table-length, table_at}
 use Rattle.event.specs.Event.{code_number, Event, at}

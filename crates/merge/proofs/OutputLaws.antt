@@ -1,9 +1,6 @@
 -- Bytes put to the front of lent ones, by whether there is room (rule V10). Assumes nothing.
-use mathlib.Core.Path.{◌≡◌}
-use mathlib.Core.List.{List}
-use Prim.Native.Nat.{ℕ, ◌≤◌, ◌<◌}
-use lib.ListN.{length}
-use borrow.Author.Tests.{le-leb, lt-leb}
+use Rattle.std.proofs.Common.{◌≡◌, List, ℕ, ◌≤◌, ◌<◌, length, le-leb}
+use borrow.Author.Tests.{lt-leb}
 use Rattle.plan.specs.Made.{in_front}
 use Rattle.merge.specs.Output.{output, put_front}
 

@@ -1,14 +1,12 @@
 -- Accepted plans are candidates, and candidates are bytes of which every parent is before its node. Assumes nothing.
-use mathlib.Core.Path.{◌≡◌, refl}
-use mathlib.Core.List.{List, [], ◌∷◌}
-use Prim.Native.Nat.{ℕ, zero, suc, ◌+◌, ◌-◌, ◌*◌, ◌/◌, ◌%◌, ◌≤◌, ◌<◌}
-use native.Mathlib.Omega.{arith}
-use lib.Dec.{eqb, ltb}
-use lib.ListN.{length, get_or, get_or-eq_default}
+use Rattle.std.proofs.Common.{◌≡◌, refl, List, [], ◌∷◌, ℕ, zero, suc, ◌+◌, ◌-◌, ◌*◌, ◌/◌, ◌%◌, ◌≤◌, ◌<◌, arith, eqb, ltb, length, get_or}
+use lib.ListN.{get_or-eq_default}
 use borrow.Author.Tests.{eqb-true, eqb-false, eq-eqb, ne_eqb, ltb-true, ltb-false}
 use Rattle.lists.specs.Bytes.{Bytes}
+use Rattle.lists.specs.Seq.{up_from}
+use Rattle.lists.proofs.Between.{between}
 use Rattle.lists.proofs.Logic.{cases, decided}
-use Rattle.plan.specs.Plan.{size, kind_byte, parent}
+use Rattle.plan.specs.Plan.{kind_number, kind_of, size, kind_byte, parent}
 use Rattle.plan.specs.Check.{Accepted, Ordered}
 use Rattle.small_plans.proofs.LastLaws.{end-task}
 use Rattle.next_plan.specs.Candidates.{lowest, highest, Fits, end, more, Candidate}
@@ -70,8 +68,8 @@ pub accepted-candidate : (q : List ℕ) → Accepted q → Candidate q
 accepted-candidate q ok = record { fits = accepted-fits q ok; even = ok.even }
 
 -- a byte of a list within the ranges
-fits-at : (n i : ℕ) (l : List ℕ) → Fits n i l → (k : ℕ) → k < length l → get_or l k 0 ≤ highest n (i + k)
-fits-at n i (b ∷ l) (more low high f) zero m = rw (let z : i + 0 ≡ i = omega arith in z) high
+fits-at : (n i : ℕ) (l : List ℕ) → Fits n i l → (k : ℕ) → k < length l → (lowest (i + k) ≤ get_or l k 0) × (get_or l k 0 ≤ highest n (i + k))
+fits-at n i (b ∷ l) (more low high f) zero m = rw (let z : i + 0 ≡ i = omega arith in z) (low, high)
 fits-at n i (b ∷ l) (more low high f) (suc k) m = rw (let z : i + suc k ≡ suc i + k = omega arith in z) (fits-at n (suc i) l f k (omega arith))
 fits-at n i [] f k m = absurd (omega arith)
 
@@ -82,20 +80,31 @@ byte_high n i l = cases (decided (eqb (i % 2) 0))
     (λ z. cases (decided (eqb i 1)) (λ y. rw (z, y) (omega arith)) (λ y. rw (z, y) (omega arith)))
 
 module _ (q : List ℕ) (c : Candidate q) where
-  at : (k : ℕ) → k < length q → get_or q k 0 ≤ highest (length q) k
+  at : (k : ℕ) → k < length q → (lowest k ≤ get_or q k 0) × (get_or q k 0 ≤ highest (length q) k)
   at k l = rw (let z : 0 + k ≡ k = omega arith in z) at (fits-at (length q) 0 q c.fits k l)
+
+  -- a kind byte is its kind's
+  pub candidate-kind : (v : ℕ) → v < size q → kind_number (kind_of (kind_byte q v)) ≡ kind_byte q v
+  unfolding kind_byte kind_number kind_of up_from
+  candidate-kind v l =
+      let h = at (2 * v) (omega (arith, c.even)) in
+      let r = even-range (length q) (2 * v) (omega arith) in
+      let high : highest (length q) (2 * v) ≤ 8 = cases (decided (eqb (2 * v + 2) (length q)))
+      (λ z. omega (arith, r.1.0 (eqb-true (2 * v + 2) (length q) z)))
+      (λ z. omega (arith, r.1.1 (eqb-false (2 * v + 2) (length q) z))) in
+      between (λ b. kind_number (kind_of b)) (λ b. b) 1 8 refl (get_or q (2 * v) 0) (omega (arith, h.0, r.0)) (omega (arith, h.1, high))
 
   pub candidate-bytes : length q ≤ 12 → Bytes (2 * size q) q
   candidate-bytes few = record {
     long = c.even;
     small = λ i. cases (decided (ltb i (length q)))
-        (λ z. let l = ltb-true i (length q) z in let h = at i l in let y = byte_high (length q) i (omega arith) in omega arith)
+        (λ z. let l = ltb-true i (length q) z in let h = (at i l).1 in let y = byte_high (length q) i (omega arith) in omega arith)
         (λ z. let e = get_or-eq_default q 0 (ltb-false i (length q) z) in omega arith);
   }
 
   pub candidate-below : (v : ℕ) → 0 < v → v < size q → parent q v < v
   unfolding parent
-  candidate-below v some l = let h = at (2 * v + 1) (omega (arith, c.even)) in omega (arith, (odd-range (length q) v some).1)
+  candidate-below v some l = let h = (at (2 * v + 1) (omega (arith, c.even))).1 in omega (arith, (odd-range (length q) v some).1)
 
   pub candidate-ordered : 0 < size q → length q ≤ 12 → Ordered q
   candidate-ordered some few = record { some = some; few = omega (arith, c.even); below = candidate-below }

@@ -7,12 +7,9 @@ use Prim.Native.Nat.{ℕ, zero, suc, ◌+◌, ◌-◌, ◌≤◌, ◌<◌}
 use native.Mathlib.Omega.{arith}
 use lib.Dec.{ltb}
 use lib.ListN.{length, get_or, set, take, drop, length-append, length-drop, length-set, get_or-append}
-use borrow.Author.Tests.{ltb-true}
 use lib.Seq.{length-take-le, take-length, drop-length, take-suc, drop-cons, append_snoc, get_or-take, set_at}
-use Rattle.lists.proofs.Logic.{and_right}
 use Rattle.lists.specs.Smallest.{behind, or_else, is_found}
 use Rattle.next_plan.specs.Candidates.{lowest, highest, lows, advance, or_lows}
-use Rattle.next_plan.proofs.CandidateLaws.{byte_high}
 
 -- from place i on nothing of l can be raised, and x has the least bytes there
 pub record Lowered (n k : ℕ) (l x : List ℕ) (i : ℕ) : Type 0 where
@@ -89,10 +86,6 @@ module _ (n k : ℕ) (l x : List ℕ) (i : ℕ) (h : Lowered n k l x (suc i)) wh
         is = written (lowest i) ∙ ap (λ t. take i l ++ t) (sym (ap (lows i) (let z : length l - i ≡ suc (length l - suc i) = omega (arith, inside) in z)));
         still = ap (advance n k i) (drop-cons l i 0 inside) ∙ rw (h.still, u) refl;
       }
-
--- the raised byte is one
-pub raised-fits : (n k i b h : ℕ) → h ≡ highest n i → i < 12 → (ltb i k && ltb b h) ≡ true → b + 1 ≤ 255
-raised-fits n k i b h e l t = let z = ltb-true b h (and_right (ltb i k) _ t) in let y = byte_high n i (omega arith) in omega arith
 
 -- what the function answers and leaves
 pub raised-found : (n k : ℕ) (l a : List ℕ) → advance n k 0 l ≡ some a → (true ≡ is_found (advance n k 0 l)) × (a ≡ or_lows (advance n k 0 l) (length l))

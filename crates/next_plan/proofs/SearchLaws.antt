@@ -1,11 +1,6 @@
 -- The search goes from candidate to candidate and leaves no small plan behind. Assumes nothing.
-use mathlib.Core.Path.{◌≡◌, refl, sym, ◌∙◌, subst}
-use mathlib.Core.List.{List}
-use Prim.Native.Nat.{ℕ, ◌-◌, ◌≤◌, ◌<◌}
-use native.Mathlib.Omega.{arith}
-use lib.ListN.{length, take}
+use Rattle.std.proofs.Common.{◌≡◌, sym, ◌∙◌, subst, List, ℕ, ◌-◌, ◌≤◌, ◌<◌, Some, None, arith, length, take}
 use lib.Seq.{length-take-le}
-use borrow.Author.Tests.{le-leb, lt-leb}
 use Rattle.lists.proofs.Logic.{cases}
 use Rattle.plan.specs.Plan.{size}
 use Rattle.plan.specs.Check.{check_number, Accepted}
@@ -83,13 +78,13 @@ module _ (p q : List ℕ) (m : ℕ) (h : Sought p q m) where
   sought-long = sym there
 
   -- there are no more candidates
-  pub sought-over : 10 < m → Found p q m
-  sought-over l = gap-over p (take m q) h.gap h.candidate (omega (arith, there)) ∙ rw (lt-leb m 10 l) refl
+  pub sought-over : 10 < m → Found p q None
+  sought-over l = gap-over p (take m q) h.gap h.candidate (omega (arith, there))
 
   module _ (few : m ≤ 10) (k : ℕ) (told : k ≡ check_number (take m q)) where
     -- the candidate is a plan
-    pub sought-found : k ≡ 0 → Found p q m
-    sought-found e = gap-found p (take m q) h.gap h.after ((check-exact (take m q)).0 (sym told ∙ e)) (omega (arith, there)) ∙ rw (le-leb m 10 few) refl
+    pub sought-found : k ≡ 0 → Found p q (Some m)
+    sought-found e = (few, gap-found p (take m q) h.gap h.after ((check-exact (take m q)).0 (sym told ∙ e)) (omega (arith, there)))
 
     -- it is refused
     pub refused-ready : (k ≡ 0 → ⊥) → Candidate (take m q) × (length (take m q) ≤ 12) × (Accepted (take m q) → ⊥)

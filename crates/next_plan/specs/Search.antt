@@ -1,5 +1,5 @@
 -- What the search knows of the plans that it skips (rules A5, T3). Definitions only.
-use Rattle.std.specs.Prelude.{◌≡◌, cond, List, ◌⊎◌, ℕ, ◌<◌, eqb, leb, length, get_or, take}
+use Rattle.std.specs.Prelude.{◌≡◌, cond, List, ◌⊎◌, ℕ, ◌≤◌, ◌<◌, Option, Some, None, eqb, length, get_or, take}
 use Rattle.std.proofs.Math.Option.{none, some}
 use Rattle.lists.specs.Seq.{sum_below}
 use Rattle.plan.specs.Plan.{kind_byte}
@@ -23,6 +23,7 @@ Dead q k = (r : List ℕ) → Accepted r → length r ≡ length q → ((i : ℕ
 abbrev pub Gap : List ℕ → List ℕ → Type 0
 Gap p q = (r : List ℕ) → Small r → Before p r → (q ≡ r) ⊎ Before q r
 
--- T3: the first n bytes of q are the next plan of p; with n above 10 there is none
-abbrev pub Found : List ℕ → List ℕ → ℕ → Type 0
-Found p q n = next_plan p ≡ cond (leb n 10) (some (take n q)) none
+-- T3: the first n bytes of q are the next plan of p, and at most 10; or there is no next plan
+abbrev pub Found : List ℕ → List ℕ → Option ℕ → Type 0
+Found p q (Some n) = (n ≤ 10) × (next_plan p ≡ some (take n q))
+Found p q None = next_plan p ≡ none

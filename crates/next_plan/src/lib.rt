@@ -3,6 +3,8 @@
 #![tactic(auto)]
 
 ghost use Rattle.std.specs.Prelude.{◌≡◌, ◌≤◌, ◌<◌, length, take};
+ghost use Rattle.fault.specs.Number.{number_of, value_of};
+ghost use Rattle.plan.specs.Plan.{kind_number};
 ghost use Rattle.plan.specs.Check.{Accepted};
 ghost use Rattle.plan.specs.Made.{made};
 ghost use Rattle.lists.specs.Smallest.{is_found};
@@ -11,7 +13,8 @@ ghost use Rattle.small_plans.specs.Claim.{Small};
 ghost use Rattle.next_plan.specs.Candidates.{lowest, highest, Candidate, advance, or_lows, following};
 ghost use Rattle.next_plan.specs.Search.{children_needed, Dead, Found};
 
-use plan::Made;
+use fault::Fault;
+use plan::kinds::Kind;
 
 // The least byte at place i of a plan.
 fn lowest(i: usize) -> u8
@@ -44,11 +47,9 @@ fn advance(q: &mut [u8], k: usize) -> bool
     ensures q_after { q.new ≡ or_lows (advance (length q.old) k 0 q.old) (length q.old) }
 {
     let n = q.len();
-    let mut i = n;
-    while 0 < i {
-        i -= 1;
+    for i in (0..n).rev() {
         let b = q[i];
-        if (i < k) & (b < highest(n, i)) {
+        if i < k && b < highest(n, i) {
             q[i] = b + 1;
             return true;
         }
@@ -70,12 +71,12 @@ fn follow(q: &mut [u8], n: usize, k: usize) -> usize
     n + 2
 }
 
-fn children_needed(kind: u8) -> usize
-    ensures { result ≡ children_needed kind }
+fn children_needed(kind: Kind) -> usize
+    ensures { result ≡ children_needed (kind_number kind) }
 {
     match kind {
-        1 => 0,
-        7 => 2,
+        Kind::Task => 0,
+        Kind::Conditional => 2,
         _ => 1,
     }
 }
@@ -88,22 +89,20 @@ fn dead_front(q: &[u8]) -> usize
 {
     let n = plan::node_count(q);
     let mut needed = 0;
-    let mut v = 0;
-    while v < n {
-        needed += children_needed(checker::kind_at(q, v));
+    for v in 0..n {
+        needed += children_needed(Kind::from(checker::kind_at(q, v)));
         if n <= needed {
             return 2 * v + 1;
         }
         if !checker::under_block(q, v) {
             return 2 * v + 2;
         }
-        v += 1;
     }
     q.len()
 }
 
-// From the plan in the first n bytes to the next small plan, and its length; above 10 if there is none.
-fn search(q: &mut [u8], n: usize) -> usize
+// From the plan in the first n bytes to the next small plan, if there is one, and its length.
+fn search(q: &mut [u8], n: usize) -> Option<usize>
     requires { (length q.old ≡ 12) × (n ≤ 10) × Small (take n q.old) }
     ensures { Found (take n q.old) q.new result }
 {
@@ -112,52 +111,31 @@ fn search(q: &mut [u8], n: usize) -> usize
     loop {
         m = follow(q, m, k);
         if 10 < m {
-            return m;
+            return None;
         }
-        if checker::check(&q[..m]) == 0 {
-            return m;
+        if checker::check(&q[..m]).is_ok() {
+            return Some(m);
         }
         k = dead_front(&q[..m]);
     }
 }
 
-// The next small plan: 1 to 6 by the check, 26 where the plan is the last one, 27 where it has more than five nodes, 7 where `out` is not 10
-// bytes, and 0 with the number of nodes where the next plan is written to the front of `out`.
-pub fn next_plan(plan: &[u8], out: &mut [u8]) -> Made
-    ensures { next_of plan.now out.old ≡ made result.number result.nodes out.new }
+// The next small plan, of a plan of at most five nodes. `out` has to be 10 bytes; the next plan is written to its front, and the answer is its
+// number of nodes.
+pub fn next_plan(plan: &[u8], out: &mut [u8]) -> Result<u8, Fault>
+    ensures { next_of plan.now out.old ≡ made (number_of result) (value_of result) out.new }
 {
-    let bad = checker::check(plan);
-    if bad != 0 {
-        return Made {
-            number: bad,
-            nodes: 0,
-        };
-    }
+    checker::check(plan)?;
     let n = plan.len();
     if 10 < n {
-        return Made {
-            number: 27,
-            nodes: 0,
-        };
+        return Err(Fault::NotSmall);
     }
     let mut q = [0u8; 12];
-    lists::copy(plan, &mut q);
-    let m = search(&mut q, n);
-    if 10 < m {
-        return Made {
-            number: 26,
-            nodes: 0,
-        };
-    }
+    q[..n].copy_from_slice(plan);
+    let m = search(&mut q, n).ok_or(Fault::LastPlan)?;
     if out.len() != 10 {
-        return Made {
-            number: 7,
-            nodes: 0,
-        };
+        return Err(Fault::BadBuffer);
     }
-    lists::copy(&q[..m], out);
-    Made {
-        number: 0,
-        nodes: (m / 2) as u8,
-    }
+    out[..m].copy_from_slice(&q[..m]);
+    Ok((m / 2) as u8)
 }

@@ -6,7 +6,9 @@ use native.Mathlib.Omega.{arith}
 use lib.Dec.{eqb}
 use borrow.Author.Tests.{eqb-true, ne_eqb}
 use Rattle.lists.proofs.Logic.{cases, decided, and_left, and-join}
-use Rattle.plan.specs.Plan.{Kind, task, serial, and, or, xor, contingency, conditional, waiting, kind_number, is_kind}
+use Rattle.plan.specs.Plan.{kind_number, is_kind}
+use Rattle.plan.specs.declared.kinds.Kind.{Kind}
+use Rattle.plan.specs.declared.kinds.Kind.TheVariants.{Task as task, Serial as serial, And as and, Or as or, Xor as xor, Contingency as contingency, Conditional as conditional, Waiting as waiting}
 use Rattle.pass.specs.Pass.{works, breaks, Tally, goes_by, goes, one_or_two, bad_answer, bad_pick, closes, note, nothing, ending, end_of}
 use Rattle.pass.specs.Values.{outcome_of, says_no, done_by}
 use Rattle.pass.proofs.StateLaws.{worked-or-broke, end-fault}

@@ -1,16 +1,15 @@
 -- The whole pass: what was refused before it, and how the settled root's marks are handed out. Assumes nothing.
-use mathlib.Core.Path.{◌≡◌, refl, sym, ◌∙◌, ap}
+use mathlib.Core.Path.{◌≡◌, refl, sym, ◌∙◌}
 use mathlib.Core.Bool.{not, cond, ◌&&◌}
 use mathlib.Core.List.{List, ◌++◌}
 use Prim.Native.Nat.{ℕ, ◌≤◌, ◌<◌}
 use native.Mathlib.Omega.{arith}
 use lib.Dec.{eqb}
-use lib.ListN.{length, set, take, drop, replicate, length-append}
+use lib.ListN.{length, set, take, drop, replicate}
 use lib.Seq.{take_at}
 use borrow.Author.Tests.{eq-eqb, ne_eqb, eqb-true}
 use Rattle.lists.proofs.Logic.{cases, and_left, and_right, and-join}
 use Rattle.lists.proofs.Lent.{fresh-zeros, fresh-length}
-use Rattle.lists.proofs.Parts.{copied-over}
 use Rattle.plan.specs.Plan.{size}
 use Rattle.plan.specs.Check.{Accepted, fit_number}
 use Rattle.plan.proofs.Main.{fit-exact}
@@ -89,15 +88,6 @@ module _ {p a m : List ℕ} {n : ℕ} {y : List ℕ} {o : ℕ} (root : Root p a 
   front-is : front n y ≡ y
   front-is = take_at y (drop n (replicate 160 0)) n fills
 
-  pub front-room : n ≤ length (y ++ drop {A = ℕ} n (replicate 160 0))
-  front-room = omega (arith, length-append y (drop n (replicate 160 0)), fills)
-
-  pub front_length : n ≡ length (front n y)
-  front_length = sym (ap length front-is ∙ fills)
-
-  pub front_fits : length (front n y) ≤ length m
-  front_fits = omega (arith, front_length, root.size_is, root.ready.marks)
-
   pass-is : pass p a ≡ pass_result (number_of (outcome_of o)) (set y 0 (root_mark (outcome_of o)))
   unfolding pass pass_of
   pass-is = rw (← fresh-zeros 160 n (size p) root.size_is root.ready.accepted.few, root.settled.by (size p) (omega arith))
@@ -105,11 +95,8 @@ module _ {p a m : List ℕ} {n : ℕ} {y : List ℕ} {o : ℕ} (root : Root p a 
   pub into-fault : 4 < o → pass_into p a m ≡ pass_result o m
   into-fault h = ready-into p a m root.ready ∙ rw (pass-is, root-fault o h, ne_eqb o 0 (λ e. omega arith))
 
-  -- s is m with the front copied over it
-  pub into-marks : o ≤ 4 → (s : List ℕ) → s ≡ take (length (front n y)) (front n y) ++ drop (length (front n y)) m → pass_into p a m ≡ pass_result 0 (set s 0 o)
+  -- s is the front
+  pub into-marks : o ≤ 4 → (s : List ℕ) → s ≡ front n y → pass_into p a m ≡ pass_result 0 (set s 0 o)
   into-marks h s f =
       let r = root-works o root.settled.least h in
-      ready-into p a m root.ready ∙ rw (pass-is, r.0, r.1, same)
-    where
-      same : s ≡ y
-      same = f ∙ rw front-is (copied-over y m (fills ∙ root.size_is ∙ sym root.ready.marks))
+      ready-into p a m root.ready ∙ rw (pass-is, r.0, r.1, f ∙ front-is)

@@ -9,40 +9,43 @@ use lib.Dec.{eqb}
 use lib.ListN.{get_or}
 use borrow.Author.Tests.{eqb-true, ne_eqb}
 use Rattle.lists.proofs.Logic.{cases, decided}
-use Rattle.plan.specs.Plan.{task, kind_of, size, kind_byte, kind}
-use Rattle.plan.proofs.KindLaws.{kind-task}
+use Rattle.plan.specs.Plan.{kind_of, size, kind_byte, kind}
+use Rattle.plan.specs.declared.kinds.Kind.{Kind}
+use Rattle.plan.specs.declared.kinds.Kind.TheVariants.{Task as task}
 use Rattle.pass.specs.Pass.{Settled, walk, nothing, unwalked, one_or_two, bad_answer, bad_pick, closes, ending, end_of, close, settle_if, settle_by, settle}
 use Rattle.pass.specs.Values.{outcome_of, task_end, Ready, Settles}
 use Rattle.links.specs.Links.{Linked}
 use Rattle.pass.proofs.StateLaws.{wrong_answer, end-fault}
-use Rattle.pass.proofs.TableLaws.{block-kind}
 
 -- node v is a block of kind k with answer x, which is right
-pub record Begun (p a f s m₀ : List ℕ) (v k x : ℕ) : Type 0 where
+pub record Begun (p a f s m₀ : List ℕ) (v : ℕ) (k : Kind) (x : ℕ) : Type 0 where
   pub ready : Ready p a m₀ v
   pub links : Linked p f s
-  pub kind-is : kind_of k ≡ kind p v
+  pub kind-is : k ≡ kind p v
   pub answer-is : x ≡ get_or a v 0
-  pub right : bad_answer (kind_of k) x ≡ 0
-  pub block : kind_of k ≡ task → ⊥
+  pub right : bad_answer k x ≡ 0
+  pub block : k ≡ task → ⊥
 
--- the block of a node that is ready; bad is the fault of its answer, or 0
-module _ {p a m : List ℕ} {v : ℕ} (r : Ready p a m v) (bad : ℕ) (told : bad ≡ bad_answer (kind_of (get_or p (2 * v) 0)) (get_or a v 0)) where
-  pub begun : (get_or p (2 * v) 0 ≡ 1 → ⊥) → (f s : List ℕ) → Linked p f s → bad ≡ 0 → Begun p a f s m v (get_or p (2 * v) 0) (get_or a v 0)
+-- the node that is ready is of kind k
+module _ {p a m : List ℕ} {v : ℕ} (r : Ready p a m v) (k : Kind) (is : k ≡ kind_of (get_or p (2 * v) 0)) where
+  kind-of : k ≡ kind p v
   unfolding kind kind_byte
-  begun n f s l e = record { ready = r; links = l; kind-is = refl; answer-is = refl; right = sym told ∙ e; block = block-kind _ (r.accepted.low v r.node) (r.accepted.high v r.node) n }
+  kind-of = is
+
+  pub begun : (k ≡ task → ⊥) → (f s : List ℕ) → Linked p f s → 0 ≡ bad_answer k (get_or a v 0) → Begun p a f s m v k (get_or a v 0)
+  begun n f s l e = record { ready = r; links = l; kind-is = kind-of; answer-is = refl; right = sym e; block = n }
 
   -- the node's own answer is wrong
-  pub settle-refused : (bad ≡ 0 → ⊥) → Settles p a m v m bad
-  unfolding settle settle_by settle_if kind kind_byte
-  settle-refused e = record { by = go; least = omega (arith, is) }
+  pub settle-refused : (bad : ℕ) → bad ≡ bad_answer k (get_or a v 0) → (bad ≡ 0 → ⊥) → Settles p a m v m bad
+  unfolding settle settle_by settle_if
+  settle-refused bad told e = record { by = go; least = omega (arith, thirteen) }
     where
-      is : bad ≡ 13
-      is = told ∙ wrong_answer (kind_of (get_or p (2 * v) 0)) (get_or a v 0) (λ q. e (told ∙ q))
+      thirteen : bad ≡ 13
+      thirteen = told ∙ wrong_answer k (get_or a v 0) (λ q. e (told ∙ q))
 
       go : (fuel : ℕ) → size p ≤ v + fuel → settle p a fuel v m ≡ record { outcome = outcome_of bad; marks = m }
       go zero f = absurd (omega (arith, r.node))
-      go (suc fuel) f = rw (ne_eqb (bad_answer (kind_of (get_or p (2 * v) 0)) (get_or a v 0)) 0 (λ q. e (told ∙ q)), ← told, end-fault bad (omega (arith, is)))
+      go (suc fuel) f = rw (← kind-of, ne_eqb (bad_answer k (get_or a v 0)) 0 (λ q. e (told ∙ q)), ← told, end-fault bad (omega (arith, thirteen)))
 
 -- a task ends by its answer alone
 module _ (x : ℕ) where
@@ -62,13 +65,10 @@ module _ (x : ℕ) where
   unfolding task_end
   task-least = cases (decided (eqb x 1)) (λ g. rw g (omega arith)) (λ g. cases (decided (eqb x 2)) (λ h. rw (g, h) (omega arith)) (λ h. rw (g, h) (omega arith)))
 
-pub task-ends : {p a m : List ℕ} {v : ℕ} → Ready p a m v → get_or p (2 * v) 0 ≡ 1 → (o : ℕ) → o ≡ task_end (get_or a v 0) → Settles p a m v m o
-unfolding settle kind_byte
-task-ends {p} {a} {m} {v} r is o e = record { by = go; least = rw e (task-least (get_or a v 0)) }
+pub task-ends : {p a m : List ℕ} {v : ℕ} → Ready p a m v → kind p v ≡ task → (o : ℕ) → o ≡ task_end (get_or a v 0) → Settles p a m v m o
+unfolding settle
+task-ends {p} {a} {m} {v} r same o e = record { by = go; least = rw e (task-least (get_or a v 0)) }
   where
-    same : kind p v ≡ task
-    same = kind-task p v is
-
     by : (f : ℕ → List ℕ → Settled) → settle_by task (get_or a v 0) f [] m ≡ record { outcome = outcome_of (task_end (get_or a v 0)); marks = m }
     by f = cases (decided (eqb (get_or a v 0) 1)) (λ g. task-right (get_or a v 0) (inl g) f m)
         (λ g. cases (decided (eqb (get_or a v 0) 2)) (λ h. task-right (get_or a v 0) (inr h) f m) (λ h. task-wrong (get_or a v 0) g h f m))

@@ -1,5 +1,5 @@
 -- What a block comes to by a byte, its state, is what its tally says, kind by kind. Assumes nothing.
-use mathlib.Core.Path.{◌≡◌, refl}
+use mathlib.Core.Path.{◌≡◌, refl, sym, ◌∙◌}
 use mathlib.Core.Bool.{Bool, true, false, cond, ◌&&◌, ◌||◌, not, false≢true}
 use mathlib.Core.Logic.{◌⊎◌, inl, inr}
 use Prim.Native.Nat.{ℕ, suc, ◌≤◌, ◌<◌}
@@ -7,7 +7,9 @@ use native.Mathlib.Omega.{arith}
 use lib.Dec.{eqb}
 use borrow.Author.Tests.{eqb-true, eqb-false, ne_eqb}
 use Rattle.lists.proofs.Logic.{cases, decided}
-use Rattle.plan.specs.Plan.{Kind, task, serial, and, or, xor, contingency, conditional, waiting, kind_number, is_kind}
+use Rattle.plan.specs.Plan.{kind_number, is_kind}
+use Rattle.plan.specs.declared.kinds.Kind.{Kind}
+use Rattle.plan.specs.declared.kinds.Kind.TheVariants.{Task as task, Serial as serial, And as and, Or as or, Xor as xor, Contingency as contingency, Conditional as conditional, Waiting as waiting}
 use Rattle.pass.specs.Pass.{Outcome, works, breaks, fault, Tally, one_or_two, bad_answer, bad_pick, closes, good_mark, child_mark, note, nothing, ending, end_of}
 use Rattle.pass.specs.Values.{outcome_of, tally_of, so_far, comes_to, ends_as}
 
@@ -45,6 +47,25 @@ pub record Seen (k : Kind) (t : Tally) (e : ℕ) : Type 0 where
   pub is : e ≡ so_far k t
   pub no-fault : t.wrong ≡ 0
   pub sound : t.chosen ≡ true → t.worked ≡ true
+
+not-five : (b : Bool) (m n : ℕ) → m < 5 → n < 5 → cond b m n ≡ 5 → ⊥
+not-five true m n l h e = omega (arith, e)
+not-five false m n l h e = omega (arith, e)
+
+-- children that offer are an xor's
+pub seen-down : (k : Kind) (t : Tally) (e : ℕ) → Seen k t e → e ≡ 5 → k ≡ xor
+unfolding so_far
+seen-down k t e h f = go k (sym h.is ∙ f)
+  where
+    go : (k : Kind) → so_far k t ≡ 5 → k ≡ xor
+    go task q = absurd (not-five t.worked 3 4 (omega arith) (omega arith) q)
+    go serial q = absurd (not-five t.broke 4 3 (omega arith) (omega arith) q)
+    go and q = absurd (not-five t.broke 4 3 (omega arith) (omega arith) q)
+    go or q = absurd (not-five t.worked 3 4 (omega arith) (omega arith) q)
+    go xor q = refl
+    go contingency q = absurd (not-five t.worked 3 4 (omega arith) (omega arith) q)
+    go conditional q = absurd (not-five t.worked 3 4 (omega arith) (omega arith) q)
+    go waiting q = absurd (not-five t.broke 4 3 (omega arith) (omega arith) q)
 
 pub seen_none : (k : Kind) → Seen k nothing (so_far k nothing)
 unfolding nothing

@@ -3,7 +3,9 @@
 -- reaches, which answers are faults, when a node works, which mark a child gets. Then the walk over the children, the nodes, the plan, and
 -- `pass_into`, what a call answers and leaves. Definitions only.
 use Rattle.std.specs.Prelude.{Bool, true, false, cond, ◌&&◌, ◌||◌, not, List, [], ◌∷◌, ℕ, zero, suc, eqb, length, get_or, set, replicate}
-use Rattle.plan.specs.Plan.{Kind, task, serial, and, or, xor, contingency, conditional, waiting, kind, size, children, is_kind}
+use Rattle.plan.specs.Plan.{kind, size, children, is_kind}
+use Rattle.plan.specs.declared.kinds.Kind.{Kind}
+use Rattle.plan.specs.declared.kinds.Kind.TheVariants.{Task as task, Serial as serial, And as and, Or as or, Xor as xor, Contingency as contingency, Conditional as conditional, Waiting as waiting}
 use Rattle.plan.specs.Check.{fit_number}
 
 -- how a node ends. F3: it works if it commits, or offers as a child of an xor; it breaks if it fails. F5: a fault's number is 13 or 14

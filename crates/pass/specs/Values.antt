@@ -1,8 +1,36 @@
 -- The code's bytes as values of specs/Pass.antt, and what `settle` takes and leaves. Definitions only.
-use Rattle.std.specs.Prelude.{◌≡◌, Bool, false, cond, ◌&&◌, not, List, ℕ, ◌+◌, ◌≤◌, ◌<◌, eqb, length}
-use Rattle.plan.specs.Plan.{Kind, task, serial, and, or, xor, contingency, conditional, waiting, is_kind, size}
+use Rattle.std.specs.Prelude.{◌≡◌, Bool, false, cond, ◌&&◌, not, List, ℕ, ◌+◌, ◌≤◌, ◌<◌, eqb, length, Result, Ok, Err, IfErr}
+use Rattle.plan.specs.Plan.{is_kind, size}
+use Rattle.plan.specs.declared.kinds.Kind.{Kind}
+use Rattle.plan.specs.declared.kinds.Kind.TheVariants.{Task as task, Serial as serial, And as and, Or as or, Xor as xor, Contingency as contingency, Conditional as conditional, Waiting as waiting}
 use Rattle.plan.specs.Check.{Accepted}
+use Rattle.fault.specs.declared.Fault.{Fault}
+use Rattle.fault.specs.Number.{fault_number}
+use Rattle.pass.specs.declared.End.{End}
+use Rattle.pass.specs.declared.End.TheVariants.{Works, Breaks}
+use Rattle.pass.specs.declared.Mark.{Mark}
+use Rattle.pass.specs.declared.Mark.TheVariants.{Committed, Failed, TurnedDown}
 use Rattle.pass.specs.Pass.{Outcome, works, breaks, fault, Tally, settle}
+
+-- F3: an end's byte
+abbrev pub end_number : End → ℕ
+end_number Works = 3
+end_number Breaks = 4
+
+-- F3, F5: the byte of an end, or the number of a fault
+abbrev pub end_byte : Result End Fault → ℕ
+end_byte (Ok e) = end_number e
+end_byte (Err f) = fault_number f
+
+-- F5: a fault is one of the pass's own, 13 or 14
+abbrev pub OfPass : {T : Type 0} → Result T Fault → Type 0
+OfPass r = IfErr r (λ f. 4 < fault_number f)
+
+-- F4: a mark's byte
+abbrev pub mark_byte : Mark → ℕ
+mark_byte Committed = 3
+mark_byte Failed = 4
+mark_byte TurnedDown = 5
 
 -- F3, F5: how a node ended, by its byte
 unfoldable pub outcome_of : ℕ → Outcome
@@ -54,3 +82,8 @@ pub record Ready (p a m : List ℕ) (v : ℕ) : Type 0 where
 pub record Settles (p a m : List ℕ) (v : ℕ) (n : List ℕ) (o : ℕ) : Type 0 where
   pub by : (fuel : ℕ) → size p ≤ v + fuel → settle p a fuel v m ≡ record { outcome = outcome_of o; marks = n }
   pub least : 3 ≤ o
+
+-- F2 to F5: the same, by what the code answers
+pub record Ended (p a m : List ℕ) (v : ℕ) (n : List ℕ) (r : Result End Fault) : Type 0 where
+  pub settles : Settles p a m v n (end_byte r)
+  pub own : OfPass r

@@ -5,7 +5,8 @@ use mathlib.Core.Bool.{true, false}
 use mathlib.Core.List.{List, [], ◌∷◌, map}
 use Prim.Native.Nat.{ℕ}
 use Rattle.lists.specs.Seq.{keep, up_from}
-use Rattle.plan.specs.Plan.{task, serial, and, or, xor, contingency, conditional, waiting, kind_number, is_kind, kind_of, size, kind_byte, kind, parent, children_below, children}
+use Rattle.plan.specs.Plan.{kind_number, is_kind, kind_of, size, kind_byte, kind, parent, children_below, children}
+use Rattle.plan.specs.declared.kinds.Kind.TheVariants.{Task as task, Serial as serial, And as and, Or as or, Xor as xor, Contingency as contingency, Conditional as conditional, Waiting as waiting}
 use Rattle.pass.specs.Pass.{Outcome, works, breaks, fault, goes_by, goes, one_or_two, bad_answer, bad_pick, closes, good_mark, child_mark, skip, note, ending, end_of, nothing, unwalked, child_settled, meet_by, meet, walk, close, settle_if, settle_by, settle, number_of, root_mark, pass_of, pass}
 use Rattle.pass_nodes.specs.Nodes.{counted, tallied, end_by, end_within, end_at, next_mark, mark_among, gives, pass_mark, has_answer}
 

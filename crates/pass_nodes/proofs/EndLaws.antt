@@ -10,7 +10,8 @@ use borrow.Author.Tests.{eqb-true, eqb-false}
 use native.Mathlib.Omega.{arith}
 use Rattle.lists.specs.Member.{In, here, there}
 use Rattle.lists.proofs.Logic.{cases, decided}
-use Rattle.plan.specs.Plan.{Kind, size, kind, children}
+use Rattle.plan.specs.Plan.{size, kind, children}
+use Rattle.plan.specs.declared.kinds.Kind.{Kind}
 use Rattle.plan.specs.Check.{Accepted}
 use Rattle.plan.specs.Under.{Under, self}
 use Rattle.plan.proofs.AcceptedLaws.{child-between}

@@ -12,7 +12,9 @@ use native.Mathlib.Omega.{arith}
 use Rattle.lists.specs.Member.{In, here, there, Rising, next}
 use Rattle.lists.proofs.Logic.{cases, decided}
 use Rattle.lists.proofs.Members.{in-none, rising-above}
-use Rattle.plan.specs.Plan.{Kind, is_kind, xor, size, kind, children}
+use Rattle.plan.specs.Plan.{is_kind, size, kind, children}
+use Rattle.plan.specs.declared.kinds.Kind.{Kind}
+use Rattle.plan.specs.declared.kinds.Kind.TheVariants.{Xor as xor}
 use Rattle.plan.specs.Check.{Accepted}
 use Rattle.plan.specs.Under.{Under, self}
 use Rattle.plan.proofs.PlanLaws.{rising-children}

@@ -9,7 +9,9 @@ use borrow.Author.Tests.{eqb-true, eqb-false, ne_eqb}
 use native.Mathlib.Omega.{arith}
 use Rattle.lists.specs.Member.{In}
 use Rattle.lists.proofs.Logic.{cases, decided}
-use Rattle.plan.specs.Plan.{Kind, is_kind, xor, size, kind, parent, children}
+use Rattle.plan.specs.Plan.{is_kind, size, kind, parent, children}
+use Rattle.plan.specs.declared.kinds.Kind.{Kind}
+use Rattle.plan.specs.declared.kinds.Kind.TheVariants.{Xor as xor}
 use Rattle.plan.specs.Check.{Accepted}
 use Rattle.plan.specs.Under.{Under, self, up}
 use Rattle.plan.proofs.AcceptedLaws.{parent-child}

@@ -1,6 +1,8 @@
 -- The pass node by node (rules F): how a node ends by the ends of its children, and which mark a block gives each child. Definitions only.
 use Rattle.std.specs.Prelude.{◌≡◌, Bool, true, false, cond, List, [], ◌∷◌, ℕ, zero, suc, eqb, get_or}
-use Rattle.plan.specs.Plan.{Kind, task, serial, and, or, xor, contingency, conditional, waiting, kind, size, children}
+use Rattle.plan.specs.Plan.{kind, size, children}
+use Rattle.plan.specs.declared.kinds.Kind.{Kind}
+use Rattle.plan.specs.declared.kinds.Kind.TheVariants.{Task as task, Serial as serial, And as and, Or as or, Xor as xor, Contingency as contingency, Conditional as conditional, Waiting as waiting}
 use Rattle.pass.specs.Pass.{Outcome, fault, Tally, goes, note, skip, nothing, bad_answer, child_mark, end_of, pass}
 
 -- F2: a block's tally after its next child, which ends as o if it is reached

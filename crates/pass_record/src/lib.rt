@@ -3,8 +3,11 @@
 #![tactic(auto)]
 
 ghost use Rattle.std.specs.Prelude.{◌≡◌};
+ghost use Rattle.fault.specs.Number.{number_of};
 ghost use Rattle.retention.specs.Record.{recorded};
 ghost use Rattle.pass_record.specs.PassRecord.{pass_record_into};
+
+use fault::Fault;
 
 // Every node's mark by the pass over these answers, and its class by the house's own table.
 pub fn pass_record(
@@ -13,20 +16,14 @@ pub fn pass_record(
     answers: &[u8],
     marks: &mut [u8],
     classes: &mut [u8],
-) -> u8
-    ensures { pass_record_into plan.now table.now answers.now marks.old classes.old ≡ recorded result marks.new classes.new }
+) -> Result<(), Fault>
+    ensures { pass_record_into plan.now table.now answers.now marks.old classes.old ≡ recorded (number_of result) marks.new classes.new }
 {
-    let bad = retention::check_table(table);
-    if bad != 0 {
-        return bad;
-    }
+    retention::check_table(table)?;
     if classes.len() != plan::node_count(plan) {
         return checker::fit(plan, false);
     }
-    let number = pass::pass(plan, answers, marks);
-    if number != 0 {
-        return number;
-    }
+    pass::pass(plan, answers, marks)?;
     retention::classify(plan, table, marks, classes);
-    0
+    Ok(())
 }

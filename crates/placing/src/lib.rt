@@ -5,6 +5,8 @@ ghost use Rattle.std.specs.Prelude.{◌≡◌, ◌+◌, ◌*◌, ◌<◌, length
 ghost use Rattle.trees.specs.Tree.{trees_below};
 ghost use Rattle.placing.specs.Place.{Placeable, Placed};
 
+use links::Links;
+
 // Writes the two bytes of node or line v.
 pub fn set_line(out: &mut [u8], v: usize, a: u8, b: u8)
     requires { 2 * v + 1 < length out.old }
@@ -16,29 +18,21 @@ pub fn set_line(out: &mut [u8], v: usize, a: u8, b: u8)
 
 // Writes the tree of node v, whose parent is u, from the number n on, and answers the number behind it. It calls itself only for children that
 // have children: most have none, and that saves most calls.
-pub fn place(
-    plan: &[u8],
-    first: &[u8; 160],
-    next: &[u8; 160],
-    out: &mut [u8],
-    v: usize,
-    u: u8,
-    n: usize,
-) -> usize
-    requires { Placeable plan.now first.now next.now out.old v n (trees_below plan.now v) }
+pub fn place(plan: &[u8], links: &Links, out: &mut [u8], v: usize, u: u8, n: usize) -> usize
+    requires { Placeable plan.now links.now.first links.now.next out.old v n (trees_below plan.now v) }
     ensures { Placed plan.now v u n (trees_below plan.now v) out.old out.new result }
 {
     set_line(out, n, checker::kind_at(plan, v), u);
     let mut w = n + 1;
-    let mut c = plan::wide(first[v]);
+    let mut c = links.first_child(v);
     while c != 0 {
-        if first[c] == 0 {
+        if links.first_child(c) == 0 {
             set_line(out, w, checker::kind_at(plan, c), n as u8);
             w += 1;
         } else {
-            w = place(plan, first, next, out, c, n as u8, w);
+            w = place(plan, links, out, c, n as u8, w);
         }
-        c = plan::wide(next[c]);
+        c = links.next_sibling(c);
     }
     w
 }

@@ -10,7 +10,9 @@ use native.Mathlib.Omega.{arith}
 use Rattle.lists.specs.Seq.{up_from}
 use Rattle.lists.proofs.Between.{between}
 use Rattle.lists.proofs.Logic.{cases, clash, decided, no_bool}
-use Rattle.plan.specs.Plan.{Kind, task, serial, and, or, xor, contingency, conditional, waiting, kind_number, is_kind, kind_of, kind_byte, kind, parent, above, above_byte}
+use Rattle.plan.specs.Plan.{kind_number, is_kind, kind_of, kind_byte, kind, parent, above, above_byte}
+use Rattle.plan.specs.declared.kinds.Kind.{Kind}
+use Rattle.plan.specs.declared.kinds.Kind.TheVariants.{Task as task, Serial as serial, And as and, Or as or, Xor as xor, Contingency as contingency, Conditional as conditional, Waiting as waiting}
 
 pub kind-task : (p : List ℕ) (v : ℕ) → kind_byte p v ≡ 1 → kind p v ≡ task
 unfolding kind kind_of

@@ -1,7 +1,9 @@
 -- The check of a plan (rules A and H1 to H7), what it accepts, and the MAIN CLAIM. Definitions only.
 use Rattle.std.specs.Prelude.{◌≡◌, Bool, true, ◌&&◌, cond, not, List, [], ◌↔◌, ℕ, suc, ◌*◌, ◌%◌, ◌≤◌, ◌<◌, length, eqb, ltb, leb}
 use Rattle.lists.specs.Seq.{all_below}
-use Rattle.plan.specs.Plan.{Kind, task, serial, and, or, xor, contingency, conditional, waiting, size, kind_byte, kind, parent, children, child_count, depth}
+use Rattle.plan.specs.Plan.{size, kind_byte, kind, parent, children, child_count, depth}
+use Rattle.plan.specs.declared.kinds.Kind.{Kind}
+use Rattle.plan.specs.declared.kinds.Kind.TheVariants.{Task as task, Serial as serial, And as and, Or as or, Xor as xor, Contingency as contingency, Conditional as conditional, Waiting as waiting}
 
 -- A1, H1: bytes come in pairs, at least one and at most 160
 unfoldable pub length_ok : List ℕ → Bool

@@ -1,10 +1,9 @@
 -- Plan bytes (rules A): nodes, kinds, parents, children, siblings, depths. Definitions only.
 use Rattle.std.specs.Prelude.{Bool, cond, not, List, ℕ, zero, suc, pred, ◌+◌, ◌*◌, ◌/◌, length, get_or, eqb}
 use Rattle.lists.specs.Seq.{keep, up_from}
-
 -- A2: an and fails with its first failed child, a waiting and once all children have ended
-pub data Kind : Type 0 where
-  task serial and or xor contingency conditional waiting : Kind
+use Rattle.plan.specs.declared.kinds.Kind.{Kind}
+use Rattle.plan.specs.declared.kinds.Kind.TheVariants.{Task as task, Serial as serial, And as and, Or as or, Xor as xor, Contingency as contingency, Conditional as conditional, Waiting as waiting}
 
 -- A2: a kind's byte
 unfoldable pub kind_number : Kind → ℕ

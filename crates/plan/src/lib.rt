@@ -2,29 +2,12 @@
 // others are refused, is specs/Check.antt; what a call comes to that writes a plan is specs/Made.antt. No public function has a `requires`.
 #![tactic(auto)]
 
+pub mod kinds;
+
 ghost use Rattle.std.specs.Prelude.{◌≡◌, get_or};
-ghost use Rattle.plan.specs.Plan.{size, kind_byte, parent, above_byte};
+ghost use Rattle.plan.specs.Plan.{size, kind_byte, kind, parent, above_byte, above};
 
-// What a call that writes a plan answers: its number, and how many nodes it wrote.
-#[derive(Drop)]
-pub struct Made {
-    pub number: u8,
-    pub nodes: u8,
-}
-
-// A byte as an index.
-pub fn wide(x: u8) -> usize
-    ensures { result ≡ x }
-{
-    x as usize
-}
-
-// A byte in 32 bits.
-pub fn wide32(x: u8) -> u32
-    ensures { result ≡ x }
-{
-    x as u32
-}
+use kinds::Kind;
 
 // The byte at i, or 0 past the end.
 pub fn byte_at(s: &[u8], i: usize) -> u8
@@ -43,14 +26,14 @@ pub fn node_count(plan: &[u8]) -> usize
 pub fn kind(plan: &[u8], v: u8) -> u8
     ensures { result ≡ kind_byte plan.now v }
 {
-    byte_at(plan, 2 * wide(v))
+    byte_at(plan, 2 * usize::from(v))
 }
 
 // The parent of v.
 pub fn parent(plan: &[u8], v: u8) -> u8
     ensures { result ≡ parent plan.now v }
 {
-    byte_at(plan, 2 * wide(v) + 1)
+    byte_at(plan, 2 * usize::from(v) + 1)
 }
 
 // The kind byte of v's parent, and a task's for the root.
@@ -62,4 +45,18 @@ pub fn above(plan: &[u8], v: u8) -> u8
     } else {
         kind(plan, parent(plan, v))
     }
+}
+
+// What v is.
+pub fn node_kind(plan: &[u8], v: u8) -> Kind
+    ensures { result ≡ kind plan.now v }
+{
+    Kind::from(kind(plan, v))
+}
+
+// What v's parent is, and a task for the root.
+pub fn kind_above(plan: &[u8], v: u8) -> Kind
+    ensures { result ≡ above plan.now v }
+{
+    Kind::from(above(plan, v))
 }

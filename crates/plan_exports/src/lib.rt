@@ -26,7 +26,7 @@ pub extern "C" fn vulcedar_version() -> u32
 pub extern "C" fn vulcedar_check(plan: &[u8]) -> u32
     ensures { result ≡ result_of (check_number plan.now) 0 0 }
 {
-    results::packed(checker::check(plan), 0)
+    results::of_done(checker::check(plan))
 }
 
 #[unsafe(no_mangle)]
@@ -34,14 +34,14 @@ pub extern "C" fn vulcedar_check_depths(plan: &[u8], depths: &mut [u8]) -> u32
     ensures value { result ≡ result_of (depths_of plan.now depths.old).number 0 0 }
     ensures depths_after { depths.new ≡ (depths_of plan.now depths.old).depths }
 {
-    results::packed(checker::check_depths(plan, depths), 0)
+    results::of_done(checker::check_depths(plan, depths))
 }
 
 #[unsafe(no_mangle)]
 pub extern "C" fn vulcedar_check_table(table: &[u8]) -> u32
     ensures { result ≡ result_of (table_number table.now) 0 0 }
 {
-    results::packed(retention::check_table(table), 0)
+    results::of_done(retention::check_table(table))
 }
 
 #[unsafe(no_mangle)]
@@ -49,7 +49,7 @@ pub extern "C" fn vulcedar_pass(plan: &[u8], answers: &[u8], marks: &mut [u8]) -
     ensures value { result ≡ result_of (pass_into plan.now answers.now marks.old).number 0 0 }
     ensures marks_after { marks.new ≡ (pass_into plan.now answers.now marks.old).marks }
 {
-    results::packed(pass::pass(plan, answers, marks), 0)
+    results::of_done(pass::pass(plan, answers, marks))
 }
 
 #[unsafe(no_mangle)]
@@ -64,8 +64,8 @@ pub extern "C" fn vulcedar_pass_record(
     ensures marks_after { marks.new ≡ (pass_record_into plan.now table.now answers.now marks.old classes.old).marks }
     ensures classes_after { classes.new ≡ (pass_record_into plan.now table.now answers.now marks.old classes.old).classes }
 {
-    let number = pass_record::pass_record(plan, table, answers, marks, classes);
-    results::packed(number, 0)
+    let answer = pass_record::pass_record(plan, table, answers, marks, classes);
+    results::of_done(answer)
 }
 
 #[unsafe(no_mangle)]
@@ -79,7 +79,7 @@ pub extern "C" fn vulcedar_record(
     ensures marks_after { marks.new ≡ (record_into plan.now state.now marks.old classes.old).marks }
     ensures classes_after { classes.new ≡ (record_into plan.now state.now marks.old classes.old).classes }
 {
-    results::packed(simulation::record(plan, state, marks, classes), 0)
+    results::of_done(simulation::record(plan, state, marks, classes))
 }
 
 #[unsafe(no_mangle)]
@@ -94,7 +94,7 @@ pub extern "C" fn vulcedar_record_by(
     ensures marks_after { marks.new ≡ (record_by_into plan.now tab.now state.now marks.old classes.old).marks }
     ensures classes_after { classes.new ≡ (record_by_into plan.now tab.now state.now marks.old classes.old).classes }
 {
-    results::packed(simulation::record_by(plan, tab, state, marks, classes), 0)
+    results::of_done(simulation::record_by(plan, tab, state, marks, classes))
 }
 
 #[unsafe(no_mangle)]
@@ -108,7 +108,7 @@ pub extern "C" fn vulcedar_impact(
     ensures value { result ≡ result_of (impact_into plan.now answers.now marks.old task answer).number 0 0 }
     ensures marks_after { marks.new ≡ (impact_into plan.now answers.now marks.old task answer).marks }
 {
-    results::packed(impact::impact(plan, answers, marks, task, answer), 0)
+    results::of_done(impact::impact(plan, answers, marks, task, answer))
 }
 
 #[unsafe(no_mangle)]
@@ -122,5 +122,5 @@ pub extern "C" fn vulcedar_way(
     ensures value { result ≡ result_of (way_into plan.now node mark end answers.old).number 0 0 }
     ensures answers_after { answers.new ≡ (way_into plan.now node mark end answers.old).answers }
 {
-    results::packed(find_way::find_way(plan, node, mark, end, answers), 0)
+    results::of_done(find_way::find_way(plan, node, mark, end, answers))
 }

@@ -1,5 +1,5 @@
 -- The first slot for which a test holds is the least one, and 16 where there is none: a name's slot, and the first free one. Assumes nothing.
-use mathlib.Core.Path.{◌≡◌, refl, ap}
+use mathlib.Core.Path.{◌≡◌, refl, sym, ap}
 use mathlib.Core.Bool.{Bool, true, false, not}
 use mathlib.Core.List.{List}
 use Prim.Native.Nat.{ℕ, zero, suc, ◌+◌, ◌≤◌, ◌<◌}
@@ -7,8 +7,12 @@ use native.Mathlib.Nat.{eq-or-lt_of_le}
 use native.Mathlib.Omega.{arith}
 use borrow.Author.Tests.{ltb-true, ltb-false, not-true, not-false}
 use lib.Dec.{ltb}
+use lib.ListN.{length}
+use Rattle.std.specs.Prelude.{nat_eq}
+use Rattle.std.specs.List.{position, position_or_len}
+use Rattle.std.proofs.lemmas.List.Sums.{fails_before_first, passes_at_first}
 use Rattle.lists.proofs.Logic.{cases, decided, no_bool, clash}
-use Rattle.points.specs.Points.{in_use, first_slot, has_name, slot_of, free_slot}
+use Rattle.points.specs.Points.{in_use, slot_number, first_slot, has_name, slot_of, free_slot}
 
 module _ (f : ℕ → Bool) where
   first-most : (n from : ℕ) → first_slot f n from ≤ from + n
@@ -32,6 +36,13 @@ module _ (f : ℕ → Bool) where
   first_out h = cases (decided (ltb (first_slot f 16 0) 16))
       (λ e. let l = ltb-true (first_slot f 16 0) 16 e in clash (f (first_slot f 16 0)) (first_holds 16 0 l) (h (first_slot f 16 0) l))
       (λ e. omega (arith, ltb-false (first_slot f 16 0) 16 e, first-most 16 0))
+
+  first-is : (k : ℕ) → k < 16 → f k ≡ true → ((j : ℕ) → j < k → f j ≡ false) → first_slot f 16 0 ≡ k
+  first-is k l t h =
+      let m = first-least 16 0 k (omega arith) l t in
+      cases (decided (ltb (first_slot f 16 0) k))
+      (λ e. let q = ltb-true (first_slot f 16 0) k e in clash (f (first_slot f 16 0)) (first_holds 16 0 (omega arith)) (h (first_slot f 16 0) q))
+      (λ e. let q = ltb-false (first_slot f 16 0) k e in omega arith)
 
   first-same : (g : ℕ → Bool) (n from : ℕ) → ((i : ℕ) → i < from + n → f i ≡ g i) → first_slot f n from ≡ first_slot g n from
   unfolding first_slot
@@ -69,6 +80,16 @@ module _ (places : List ℕ) where
   pub free-none : 16 ≤ free_slot places → (i : ℕ) → i < 16 → in_use places i ≡ true
   unfolding free_slot
   free-none h i l = not-false (in_use places i) (no_bool (is_free i) (λ t. omega (arith, first-least is_free 16 0 i (omega arith) l t)))
+
+  -- by the first word that is 0
+  pub free-position : length places ≡ 16 → slot_number (position (λ w. nat_eq w 0) places) ≡ free_slot places
+  unfolding free_slot
+  free-position long =
+      let k : ℕ = position_or_len (λ w. nat_eq w 0) places in
+      let before : (j : ℕ) → j < k → is_free j ≡ false = λ j l. ap (λ b. not (not b)) (fails_before_first (λ w. nat_eq w 0) places j 0 l) in
+      cases (decided (ltb k (length places)))
+      (λ e. let l = ltb-true k (length places) e in rw e (sym (first-is is_free k (omega arith) (ap (λ b. not (not b)) (passes_at_first (λ w. nat_eq w 0) places 0 l)) before)))
+      (λ e. let l = ltb-false k (length places) e in rw e (sym (first_out is_free (λ i m. before i (omega arith)))))
 
   pub free-out : ((i : ℕ) → i < 16 → in_use places i ≡ true) → free_slot places ≡ 16
   unfolding free_slot

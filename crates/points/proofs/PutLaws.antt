@@ -1,26 +1,21 @@
--- A slot's name as it is written byte by byte, and what is read of the names afterwards. Assumes nothing.
+-- A slot's name as it is written, and what is read of the names afterwards. Assumes nothing.
 use mathlib.Core.Path.{◌≡◌, refl, sym, ◌∙◌, ap}
-use mathlib.Core.List.{List, [], ◌∷◌}
+use mathlib.Core.List.{List, [], ◌∷◌, ◌++◌}
 use mathlib.Core.Logic.{⊎_elim, ◌⊎◌, inl, inr}
 use Prim.Native.Nat.{ℕ, zero, suc, ◌+◌, ◌≤◌, ◌<◌}
 use native.Mathlib.Nat.{add-zero}
 use native.Mathlib.Omega.{arith}
-use lib.ListN.{length, get_or, set, drop, length-set}
-use lib.Seq.{sets, drop-length, get_or-set_same, get_or-set_other}
-use Rattle.lists.proofs.PutLaws.{Left, left-all, left-none, left-put, put_one, drop-turn}
+use borrow.Rule.Slice.PartMut.{put_mid}
+use lib.ListN.{length, get_or, set, take, drop, length-set}
+use lib.Seq.{sets, sets-eq, take-length, get_or-set_same, get_or-set_other}
+use Rattle.std.proofs.lemmas.Slice.{put_mid-paste}
 
-module _ (name names₀ : List ℕ) (w : ℕ) where
-  pub name-all : Left name name names₀ w names₀ (w + 0)
-  name-all = rw (add-zero w) (left-all name names₀ w)
-
-  module _ (names : List ℕ) (j : ℕ) (left : Left (drop j name) name names₀ w names (w + j)) where
-    pub name-turn : j < length name → Left (drop (j + 1) name) name names₀ w (set names (w + j) (get_or name j 0)) (w + (j + 1))
-    name-turn l = let a : w + (j + 1) ≡ w + j + 1 = omega arith in
-        rw a (left-put (get_or name j 0 ∷ []) (drop (j + 1) name) (rw (drop-turn name j l) at left) (put_one (get_or name j 0) names (w + j)))
-
-    pub name_done : length name ≡ j → names ≡ sets names₀ w name
-    name_done e = let d : drop j name ≡ [] = ap (λ (n : ℕ). drop n name) (sym e) ∙ drop-length name in
-        (left-none (rw d at left)).held
+-- the part of the names from a on, overwritten by a name
+pub name_put : (name names part : List ℕ) (a k : ℕ) → part ≡ name → k ≡ length name → a + length name ≤ length names → put_mid a k names part ≡ sets names a name
+name_put name names part a k is long room =
+    put_mid-paste a k names part name (length name) is (sym long) refl
+    ∙ ap (λ l. take a names ++ l ++ drop (a + length name) names) (take-length name)
+    ∙ sym (sets-eq name names a room)
 
 -- what is read after a list was written: inside it, and elsewhere
 pub sets-other : (vs l : List ℕ) (i k : ℕ) → (k < i) ⊎ (i + length vs ≤ k) → get_or (sets l i vs) k 0 ≡ get_or l k 0

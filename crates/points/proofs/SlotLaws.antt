@@ -5,12 +5,14 @@ use mathlib.Core.List.{List}
 use Prim.Native.Nat.{ℕ, suc, ◌+◌, ◌*◌, ◌-◌, ◌≤◌, ◌<◌}
 use native.Mathlib.Numerals.{add-one}
 use native.Mathlib.Omega.{arith}
-use borrow.Author.Tests.{eq-eqb, ne_eqb, lt-ltb, le-ltb, ltb-true, ltb-false}
+use borrow.Author.Tests.{eq-eqb, ne_eqb, lt-ltb, le-ltb, ltb-true, ltb-false, eqb-true, eqb-false, not-true, not-false}
 use lib.Dec.{eqb, ltb}
 use lib.ListN.{length, get_or, take, drop, length-drop}
 use lib.Seq.{get_or-take, get_or-drop, length-take-le}
+use Rattle.std.specs.Prelude.{Option, Some, None}
+use Rattle.std.specs.Option.{option_eq}
 use Rattle.lists.proofs.Logic.{cases, decided}
-use Rattle.points.specs.Points.{first_slot, name_at, in_use}
+use Rattle.points.specs.Points.{slot_number, first_slot, name_at, in_use}
 
 module _ (f : ℕ → Bool) (i : ℕ) where
   pub slot-found : i < 16 → f i ≡ true → first_slot f (16 - i) i ≡ i
@@ -28,6 +30,15 @@ module _ (f : ℕ → Bool) (i : ℕ) where
   slot-end l m = let e : 16 - i ≡ 0 = omega arith in
       let d : i ≡ 16 = omega arith in
       rw (e, d)
+
+-- a slot that was looked for is i, or is not
+pub slot-like : (o : Option ℕ) (i : ℕ) → not (option_eq eqb o (Some i)) ≡ false → slot_number o ≡ i
+slot-like (Some j) i t = eqb-true j i (not-false (eqb j i) t)
+slot-like None i t = cc
+
+pub slot-unlike : (o : Option ℕ) (i : ℕ) → i < 16 → not (option_eq eqb o (Some i)) ≡ true → slot_number o ≡ i → ⊥
+slot-unlike (Some j) i l t e = eqb-false j i (not-true (eqb j i) t) e
+slot-unlike None i l t e = omega arith
 
 -- byte j of slot i's name
 pub name-byte : (names : List ℕ) (i j : ℕ) → j < 8 → get_or (name_at names i) j 0 ≡ get_or names (8 * i + j) 0

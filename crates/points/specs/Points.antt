@@ -1,5 +1,5 @@
 -- Named points in a journal (rules M1 to M4): sixteen slots, each with a name of 8 bytes and a place. Definitions only.
-use Rattle.std.specs.Prelude.{Bool, cond, ◌&&◌, ◌||◌, not, List, ℕ, zero, suc, ◌*◌, ◌-◌, ◌/◌, eqb, ltb, length, take, drop, get_or, set}
+use Rattle.std.specs.Prelude.{Bool, cond, ◌&&◌, ◌||◌, not, List, ℕ, zero, suc, ◌*◌, ◌-◌, ◌/◌, eqb, ltb, length, take, drop, get_or, set, Option, Some, None}
 use Rattle.std.proofs.lemmas.List.Edits.{sets}
 use Rattle.lists.specs.Seq.{all_below, table}
 
@@ -24,6 +24,11 @@ place_at places i = get_or places i 0 - 1
 -- M1: two names are the same, byte for byte
 unfoldable pub same_name : List ℕ → List ℕ → Bool
 same_name a b = all_below (λ j. eqb (get_or a j 0) (get_or b j 0)) 8
+
+-- M3, M6: a slot that was looked for; 16 where there is none
+abbrev pub slot_number : Option ℕ → ℕ
+slot_number (Some i) = i
+slot_number None = 16
 
 -- M3: the first of n slots from `from` on for which a test holds; the one behind them where there is none
 unfoldable pub first_slot : (ℕ → Bool) → ℕ → ℕ → ℕ

@@ -1,28 +1,26 @@
 // Named points in a journal: sixteen slots, which the caller lends as names and places. What they are is specs/Points.antt; what naming and dropping do
 // to the places of names is specs/Claim.antt. `points_fit` and `name_point` take anything; the others are for callers that have asked `points_fit`.
+// Names and places are two slices, and a place is a word that is 0 in a free slot: so C programs lend them (`vulcedar_point_name`).
 #![tactic(auto)]
 
-ghost use Rattle.std.specs.Prelude.{◌≡◌, ◌&&◌, suc, ◌+◌, ◌*◌, ◌<◌, ◌≤◌, ltb, length};
+ghost use Rattle.std.specs.Prelude.{◌≡◌, ◌&&◌, suc, ◌+◌, ◌*◌, ◌<◌, ◌≤◌, ltb, length, IfSome, position, ◌==◌};
 ghost use Rattle.std.proofs.lemmas.List.Edits.{sets};
+ghost use Rattle.fault.specs.Number.{number_of};
 ghost use Rattle.points.specs.Keys.{half_at, key_at};
-ghost use Rattle.points.specs.Points.{slot_of, free_slot, none_past, named_once, points_fit, points, naming, name_of, dropped};
+ghost use Rattle.points.specs.Points.{slot_number, slot_of, free_slot, none_past, named_once, points_fit, points, naming, name_of, dropped};
 
-fn wide(b: u8) -> u64
-    ensures { (result ≡ b) × (result < 256) }
-{
-    b as u64
-}
+use fault::Fault;
 
 // Four bytes as a number, the first one lowest.
 fn half(bytes: &[u8], at: usize) -> u64
     requires { at + 4 ≤ length bytes.now }
     ensures { (result ≡ half_at bytes.now at) × (result < 4294967296) }
 {
-    let high = wide(bytes[at + 2]) + 256 * wide(bytes[at + 3]);
-    wide(bytes[at]) + 256 * (wide(bytes[at + 1]) + 256 * high)
+    let high = u64::from(bytes[at + 2]) + 256 * u64::from(bytes[at + 3]);
+    u64::from(bytes[at]) + 256 * (u64::from(bytes[at + 1]) + 256 * high)
 }
 
-// A name as a number: two names are the same if their numbers are.
+// A name as a number: two names are the same if their numbers are. A byte-wise `==` is no faster way: the test of sixteen points takes four times as long.
 fn key(bytes: &[u8], at: usize) -> u64
     requires { at + 8 ≤ length bytes.now }
     ensures { result ≡ key_at bytes.now at }
@@ -30,37 +28,30 @@ fn key(bytes: &[u8], at: usize) -> u64
     half(bytes, at) + 4294967296 * half(bytes, at + 4)
 }
 
-// The slot of the point of this name; 16 where there is none.
-pub fn slot_of(names: &[u8], places: &[u64], name: &[u8]) -> usize
+// The slot of the point of this name.
+pub fn slot_of(names: &[u8], places: &[u64], name: &[u8]) -> Option<usize>
     requires { (length names.now ≡ 128) × (length places.now ≡ 16) × (length name.now ≡ 8) }
-    ensures { (result ≡ slot_of names.now places.now name.now) × (result ≤ 16) }
+    ensures value { slot_number result ≡ slot_of names.now places.now name.now }
+    ensures within { IfSome result (λ i. i < 16) }
 {
     let wanted = key(name, 0);
-    let mut i = 0;
-    while i < 16 {
-        if places[i] != 0 {
+    for (i, word) in places.iter().enumerate() {
+        if *word != 0 {
             if key(names, 8 * i) == wanted {
-                return i;
+                return Some(i);
             }
         }
-        i += 1;
     }
-    16
+    None
 }
 
-// The first free slot; 16 where there is none.
-fn free_slot(places: &[u64]) -> usize
+// The first free slot.
+fn free_slot(places: &[u64]) -> Option<usize>
     requires { length places.now ≡ 16 }
-    ensures { (result ≡ free_slot places.now) × (result ≤ 16) }
+    ensures first { result ≡ position (λ w. w == 0) places.now }
+    ensures within { IfSome result (λ i. i < 16) }
 {
-    let mut i = 0;
-    while i < 16 {
-        if places[i] == 0 {
-            return i;
-        }
-        i += 1;
-    }
-    16
+    places.iter().position(|word| *word == 0)
 }
 
 // The word says a point at a place above the count.
@@ -78,20 +69,17 @@ fn slots_fit(names: &[u8], places: &[u64], count: usize) -> bool
     requires { (length names.now ≡ 128) × (length places.now ≡ 16) }
     ensures { result ≡ (none_past places.now count && named_once names.now places.now) }
 {
-    let mut i = 0;
-    while i < 16 {
-        let word = places[i];
-        if word != 0 {
-            if is_past(word, count) {
+    for (i, word) in places.iter().enumerate() {
+        if *word != 0 {
+            if is_past(*word, count) {
                 return false;
             }
             let a = 8 * i;
             let e = a + 8;
-            if slot_of(names, places, &names[a..e]) != i {
+            if slot_of(names, places, &names[a..e]) != Some(i) {
                 return false;
             }
         }
-        i += 1;
     }
     true
 }
@@ -114,38 +102,39 @@ fn put_name(names: &mut [u8], i: usize, name: &[u8])
     requires { (length names.old ≡ 128) × (i < 16) × (length name.now ≡ 8) }
     ensures { names.new ≡ sets names.old (8 * i) name.now }
 {
-    let mut j = 0;
-    while j < 8 {
-        names[8 * i + j] = name[j];
-        j += 1;
-    }
+    let a = 8 * i;
+    let e = a + 8;
+    names[a..e].copy_from_slice(name);
 }
 
 // Names the place at the count.
-pub fn name_point(name: &[u8], count: usize, names: &mut [u8], places: &mut [u64]) -> u8
-    ensures { name_of name.now count names.old places.old ≡ naming result names.new places.new }
+pub fn name_point(
+    name: &[u8],
+    count: usize,
+    names: &mut [u8],
+    places: &mut [u64],
+) -> Result<(), Fault>
+    ensures { name_of name.now count names.old places.old ≡ naming (number_of result) names.new places.new }
 {
     if name.len() != 8 {
-        return 7;
+        return Err(Fault::BadBuffer);
     }
-    if count == 18446744073709551615 {
-        return 7;
+    if count == usize::MAX {
+        return Err(Fault::BadBuffer);
     }
     if !points_fit(names, places, count) {
-        return 7;
+        return Err(Fault::BadBuffer);
     }
-    let known = slot_of(names, places, name);
-    if known < 16 {
+    if let Some(known) = slot_of(names, places, name) {
         places[known] = count as u64 + 1;
-        return 0;
+        return Ok(());
     }
-    let free = free_slot(places);
-    if free == 16 {
-        return 20;
-    }
+    let Some(free) = free_slot(places) else {
+        return Err(Fault::NoFreePoint);
+    };
     put_name(names, free, name);
     places[free] = count as u64 + 1;
-    0
+    Ok(())
 }
 
 // Frees the slots whose points are past the count.
@@ -154,12 +143,10 @@ pub fn drop_past(count: usize, names: &mut [u8], places: &mut [u64])
     ensures { dropped count names.old places.old ≡ points names.new places.new }
 {
     let none: [u8; 8] = [0; 8];
-    let mut i = 0;
-    while i < 16 {
-        if is_past(places[i], count) {
+    for (i, word) in places.iter_mut().enumerate() {
+        if is_past(*word, count) {
             put_name(names, i, &none);
-            places[i] = 0;
+            *word = 0;
         }
-        i += 1;
     }
 }

@@ -10,7 +10,8 @@ use native.Mathlib.Omega.{arith}
 use Rattle.lists.specs.Member.{In, here, there, Rising, next}
 use Rattle.lists.proofs.Logic.{cases, clash, decided}
 use Rattle.lists.proofs.Members.{rising-above}
-use Rattle.plan.specs.Plan.{Kind, task, serial, and, or, xor, contingency, conditional, waiting}
+use Rattle.plan.specs.declared.kinds.Kind.{Kind}
+use Rattle.plan.specs.declared.kinds.Kind.TheVariants.{Task as task, Serial as serial, And as and, Or as or, Xor as xor, Contingency as contingency, Conditional as conditional, Waiting as waiting}
 use Rattle.pass.specs.Pass.{Outcome, works, breaks, fault, Tally, goes, goes_by, note, skip, nothing, good_mark, child_mark, bad_pick, closes, ending, end_of, number_of}
 use Rattle.pass_nodes.specs.Nodes.{counted, tallied, end_by, next_mark, mark_among}
 use Rattle.pass_nodes.proofs.EndLaws.{clean-node, tally-sound}

@@ -11,7 +11,8 @@ use borrow.Author.Tests.{eqb-false, ltb-true}
 use native.Mathlib.Omega.{arith}
 use Rattle.lists.specs.Seq.{keep, up_from, all_below}
 use Rattle.lists.proofs.Logic.{cases}
-use Rattle.plan.specs.Plan.{task, serial, contingency, kind_number, is_kind, kind_of, size, kind_byte, kind, parent, children_below, children, child_count, depth_within, depth}
+use Rattle.plan.specs.Plan.{kind_number, is_kind, kind_of, size, kind_byte, kind, parent, children_below, children, child_count, depth_within, depth}
+use Rattle.plan.specs.declared.kinds.Kind.TheVariants.{Task as task, Serial as serial, Contingency as contingency}
 use Rattle.plan.specs.Check.{length_ok, kind_ok, parent_ok, under_block, fits, count_ok, depth_ok, at_all, check_number, fit_number}
 use Rattle.plan.specs.Under.{Under, self, up}
 use Rattle.plan.proofs.UnderLaws.{under_low}

@@ -11,7 +11,8 @@ use native.Mathlib.Omega.{arith}
 use Rattle.lists.specs.Member.{In, here, there}
 use Rattle.lists.proofs.Logic.{cases, decided}
 use Rattle.lists.proofs.Members.{in-none, all_same, any_same}
-use Rattle.plan.specs.Plan.{task, is_kind, kind, parent, size}
+use Rattle.plan.specs.Plan.{is_kind, kind, parent, size}
+use Rattle.plan.specs.declared.kinds.Kind.TheVariants.{Task as task}
 use Rattle.plan.specs.Check.{Accepted}
 use Rattle.plan.specs.Under.{Under, self, up}
 use Rattle.plan.proofs.KindLaws.{same_kind}

@@ -11,7 +11,8 @@ use borrow.Author.Tests.{eqb-true, eqb-false, eq-eqb, ne_eqb, ltb-true, lt-ltb, 
 use native.Mathlib.Omega.{arith}
 use Rattle.lists.proofs.Logic.{cases, decided, test-passed, number_passed, no_bool}
 use Rattle.lists.proofs.Below.{below_at, below_by}
-use Rattle.plan.specs.Plan.{task, is_kind, kind_number, size, kind}
+use Rattle.plan.specs.Plan.{is_kind, kind_number, size, kind}
+use Rattle.plan.specs.declared.kinds.Kind.TheVariants.{Task as task}
 use Rattle.plan.specs.Check.{Accepted}
 use Rattle.plan.proofs.KindLaws.{same_kind}
 use Rattle.pass.specs.Pass.{pass_result, pass, pass_number, pass_into}
@@ -46,12 +47,12 @@ module _ (p a m : List ℕ) where
 
 -- m are the pass's marks, byte by byte
 module _ (p a m : List ℕ) (long : length m ≡ size p) (z : Accepted p) (ok : (pass p a).number ≡ 0) where
-  marks-are : are_marks p a m ≡ true → m ≡ (pass p a).marks
+  pub marks-are : are_marks p a m ≡ true → m ≡ (pass p a).marks
   unfolding are_marks
   marks-are h = ext_get_or 0 m (pass p a).marks (long ∙ sym (marks-length p z a ok))
       (λ v l. eqb-true _ _ (below_at (λ v. eqb (get_or m v 0) (get_or (pass p a).marks v 0)) (size p) v h (omega arith)))
 
-are-marks : (p a m : List ℕ) → m ≡ (pass p a).marks → are_marks p a m ≡ true
+pub are-marks : (p a m : List ℕ) → m ≡ (pass p a).marks → are_marks p a m ≡ true
 unfolding are_marks
 are-marks p a m e = below_by (λ v. eqb (get_or m v 0) (get_or (pass p a).marks v 0)) (size p) (λ v l. eq-eqb _ _ (ap (λ r. get_or r v 0) e))
 

@@ -12,7 +12,8 @@ use native.Mathlib.Omega.{arith}
 use Rattle.lists.specs.Member.{In}
 use Rattle.lists.proofs.Logic.{cases, decided}
 use Rattle.lists.proofs.Members.{in_some}
-use Rattle.plan.specs.Plan.{task, xor, kind_number, size, kind, parent, children}
+use Rattle.plan.specs.Plan.{kind_number, size, kind, parent, children}
+use Rattle.plan.specs.declared.kinds.Kind.TheVariants.{Task as task, Xor as xor}
 use Rattle.plan.specs.Check.{Accepted}
 use Rattle.plan.specs.Under.{Under, self, Below}
 use Rattle.plan.proofs.PlanLaws.{child-of, rising-children}

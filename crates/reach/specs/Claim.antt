@@ -1,6 +1,7 @@
 -- THE CLAIMS of rules O: how far one result reaches, and that the call goes no farther. Definitions only.
 use Rattle.std.specs.Prelude.{◌≡◌, List, ◌⊎◌, ◌↔◌, ℕ, ◌<◌, ◌≤◌, length, get_or, set}
-use Rattle.plan.specs.Plan.{task, xor, kind, size}
+use Rattle.plan.specs.Plan.{kind, size}
+use Rattle.plan.specs.declared.kinds.Kind.TheVariants.{Task as task, Xor as xor}
 use Rattle.plan.specs.Check.{Accepted}
 use Rattle.plan.specs.Under.{Under, Below}
 use Rattle.pass.specs.Pass.{pass_result, pass, pass_number, pass_into}

@@ -1,7 +1,8 @@
 -- One answer changed (rules O6, O7): what the call answers and leaves. Definitions only.
 use Rattle.std.specs.Prelude.{Bool, cond, not, List, ℕ, eqb, ltb, leb, get_or, set}
 use Rattle.lists.specs.Seq.{all_below}
-use Rattle.plan.specs.Plan.{task, kind, size, is_kind}
+use Rattle.plan.specs.Plan.{kind, size, is_kind}
+use Rattle.plan.specs.declared.kinds.Kind.TheVariants.{Task as task}
 use Rattle.pass.specs.Pass.{PassResult, pass_result, pass, pass_number}
 
 -- O6, H24: the marks m, one a node, are those of the pass over the answers a

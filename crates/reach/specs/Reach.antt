@@ -1,6 +1,7 @@
 -- What one task's answer can change (rules O1, O2). Definitions only.
 use Rattle.std.specs.Prelude.{◌≡◌, List, ◌⊎◌, ℕ, ◌<◌, get_or}
-use Rattle.plan.specs.Plan.{task, serial, contingency, kind, parent, size}
+use Rattle.plan.specs.Plan.{kind, parent, size}
+use Rattle.plan.specs.declared.kinds.Kind.TheVariants.{Task as task, Serial as serial, Contingency as contingency}
 use Rattle.plan.specs.Under.{Under}
 use Rattle.pass.specs.Pass.{pass}
 

@@ -13,8 +13,8 @@ use Rattle.lists.proofs.Keep.{keep-short}
 use Rattle.lists.proofs.Table.{up-length}
 use Rattle.plan.specs.Plan.{size}
 use Rattle.retention.specs.Record.{table_number, Recorded, recorded}
-use Rattle.site.specs.declared.Refusal.TheVariants.{Invalid}
-use Rattle.site.specs.declared.Verdict.TheVariants.{Refused}
+use Rattle.site.specs.Verdict.{Invalid}
+use Rattle.site.specs.Verdict.{Refused}
 use Rattle.site.specs.Verdict.{verdict_number}
 use Rattle.site.specs.Step.{Stepped, stepped, step_at}
 use Rattle.job.specs.Simulation.{step_by, Simulated, simulated}

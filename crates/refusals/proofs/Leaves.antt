@@ -31,16 +31,16 @@ use Rattle.guard.specs.Guard.{guard}
 use Rattle.guard.specs.Rule.{rule_byte}
 use Rattle.guard.specs.Bytes.{encode}
 use Rattle.writer.specs.Written.{Filled, filled, written, written_number, fitted, write_of}
-use Rattle.writer.specs.declared.Written.TheVariants.{Done, Refused}
+use Rattle.writer.specs.Written.{Done, Refused}
 use Rattle.site.specs.Verdict.{report_of, verdict_number}
-use Rattle.site.specs.declared.Refusal.TheVariants.{Invalid}
-use Rattle.site.specs.declared.Verdict.TheVariants as verdict
+use Rattle.site.specs.Verdict.{Invalid}
+use Rattle.site.specs.Verdict as verdict
 use Rattle.site.specs.Step.{Stepped, stepped, step_invalid, step_at, hear_of}
 use Rattle.site.proofs.StepLaws.{step-leaves}
 use Rattle.row.specs.Row.{hear}
 use Rattle.central.specs.Central.{allowed}
 use Rattle.central.specs.Rule.{Ruled, ruled, ruling_number, state_of, rule_invalid, marks_after, notes_after, rule_on, rule_of}
-use Rattle.central.specs.declared.Ruling.TheVariants as ruling
+use Rattle.central.specs.Ruling as ruling
 use Rattle.pass.specs.Pass.{PassResult, pass_result, pass, pass_number, pass_into}
 use Rattle.reach.specs.Impact.{impact_number, impact_into}
 use Rattle.way.specs.Way.{can_want, way, WayResult, way_result, found_into, way_into}

@@ -8,7 +8,9 @@ use borrow.Author.Tests.{ltb-true, eqb-false, not-true}
 use lib.Dec.{eqb, ltb}
 use lib.ListN.{get_or}
 use Rattle.lists.proofs.Logic.{and_left, and_right}
-use Rattle.plan.specs.Plan.{Kind, task, serial, and, or, xor, contingency, conditional, waiting, kind, children}
+use Rattle.plan.specs.Plan.{kind, children}
+use Rattle.plan.specs.declared.kinds.Kind.{Kind}
+use Rattle.plan.specs.declared.kinds.Kind.TheVariants.{Task as task, Serial as serial, And as and, Or as or, Xor as xor, Contingency as contingency, Conditional as conditional, Waiting as waiting}
 use Rattle.pass.specs.Pass.{Outcome, works, breaks, fault, Tally, one_or_two, bad_answer, bad_pick, closes, goes, skip, note, ending, end_of, Settled, Walked, nothing, unwalked, child_settled, meet_by, meet, walk, close, settle_if, settle_by, settle, number_of, pass_of, pass}
 use Rattle.refusals.specs.Claim.{Later}
 use Rattle.refusals.proofs.ChoiceLaws.{choice}

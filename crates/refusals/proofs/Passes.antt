@@ -9,7 +9,8 @@ use lib.Dec.{eqb, ltb, leb}
 use lib.ListN.{length, set}
 use Rattle.lists.specs.Seq.{all_below}
 use Rattle.lists.proofs.Logic.{cases, decided, and-join}
-use Rattle.plan.specs.Plan.{task, kind, size, is_kind}
+use Rattle.plan.specs.Plan.{kind, size, is_kind}
+use Rattle.plan.specs.declared.kinds.Kind.TheVariants.{Task as task}
 use Rattle.plan.specs.Check.{Accepted, fit_number}
 use Rattle.plan.specs.Made.{Made, made}
 use Rattle.plan.specs.Replaced.{replaced_by}
@@ -33,16 +34,16 @@ use Rattle.guard.specs.Guard.{guard, holds, barred}
 use Rattle.guard.specs.Rule.{rule_byte}
 use Rattle.guard.specs.Bytes.{encode}
 use Rattle.writer.specs.Written.{Filled, filled, written_number, fitted, write_of}
-use Rattle.writer.specs.declared.Written.TheVariants.{Refused}
+use Rattle.writer.specs.Written.{Refused}
 use Rattle.site.specs.Verdict.{report_of, verdict_number}
 use Rattle.site.specs.Step.{Stepped, stepped, step_invalid, decide, step_at, hear_of}
-use Rattle.site.specs.declared.Refusal.TheVariants.{Invalid}
-use Rattle.site.specs.declared.Verdict.TheVariants as verdict
+use Rattle.site.specs.Verdict.{Invalid}
+use Rattle.site.specs.Verdict as verdict
 use Rattle.site.proofs.StepLaws.{decision-10, decision-11, decision-0}
 use Rattle.row.specs.Row.{heard, hear}
 use Rattle.central.specs.Central.{allowed}
 use Rattle.central.specs.Rule.{Ruled, ruled, ruling_number, right_size, state_of, rule_invalid, marks_after, notes_after, rule_on, rule_of}
-use Rattle.central.specs.declared.Ruling.TheVariants as ruling
+use Rattle.central.specs.Ruling as ruling
 use Rattle.pass.specs.Pass.{PassResult, pass_result, pass, pass_number, pass_into}
 use Rattle.way.specs.Way.{can_want, way, WayResult, way_result, found_into, way_into}
 use Rattle.reach.specs.Impact.{are_marks, new_number, change_number, impact_number, impact_into}

@@ -15,8 +15,8 @@ use Rattle.event.specs.Valid.{invalid}
 use Rattle.event.proofs.ValidLaws.{valid}
 use Rattle.row.specs.Row.{heard, hear}
 use Rattle.site.specs.Verdict.{report_of, verdict_number}
-use Rattle.site.specs.declared.Refusal.TheVariants.{Invalid, Untrue}
-use Rattle.site.specs.declared.Verdict.TheVariants.{Heard, Refused}
+use Rattle.site.specs.Verdict.{Invalid, Untrue}
+use Rattle.site.specs.Verdict.{Heard, Refused}
 use Rattle.runs.proofs.Full.{site-in}
 use Rattle.job.specs.Simulation.{row_of, with_row, Step, event, message, Simulated, simulated, state_fits, happen, tell, simulate}
 use Rattle.job.proofs.StateLaws.{row-length}

@@ -1,20 +1,17 @@
 -- What the call comes to, by the test that fails first. Assumes nothing.
-use mathlib.Core.Path.{◌≡◌, ◌∙◌, ap}
-use mathlib.Core.Bool.{Bool, true, false, ◌&&◌, not}
-use mathlib.Core.List.{List}
-use Prim.Native.Nat.{ℕ, suc, ◌+◌, ◌-◌, ◌*◌, ◌≤◌, ◌<◌}
-use native.Mathlib.Nat.{mul-le-mul_right}
-use native.Mathlib.Omega.{arith}
-use lib.Dec.{eqb}
-use lib.ListN.{length}
-use Rattle.plan.specs.Plan.{size, kind_byte, child_count}
+use Rattle.std.proofs.Common.{◌≡◌, refl, ◌∙◌, ap, Bool, true, false, not, List, ℕ, suc, ◌+◌, ◌-◌, ◌*◌, ◌≤◌, ◌<◌, arith, length}
+use Rattle.std.proofs.Math.Nat.{mul-le-mul_right}
+use Rattle.lists.specs.Seq.{up_from}
+use Rattle.lists.proofs.Between.{between}
+use Rattle.plan.specs.declared.kinds.Kind.{Kind}
+use Rattle.plan.specs.Plan.{kind_number, kind_of, size, kind_byte}
 use Rattle.plan.specs.Check.{Accepted}
 use Rattle.plan.specs.Made.{made, in_front}
 use Rattle.checker.proofs.TestLaws.{passed, failed}
 use Rattle.links.specs.Links.{Linked}
 use Rattle.trees.specs.Tree.{trees_below, node_count}
 use Rattle.trees.proofs.RenumberLaws.{below-few}
-use Rattle.template.specs.Repeat.{can_repeat, can_mark, repeated_below, repeated_tree, repeated}
+use Rattle.template.specs.Repeat.{repeated_below, repeated_tree, repeated}
 use Rattle.template.specs.Call.{times_ok, repeat_of}
 use Rattle.template.specs.Claim.{Template}
 use Rattle.template.proofs.CountLaws.{repeat-count}
@@ -23,17 +20,10 @@ use Rattle.template.proofs.CallLaws as call
 use Rattle.placing.specs.Place.{Placeable, Placed}
 use Rattle.placing.proofs.PlaceLaws.{root-placed}
 
--- a and b are what the tests of the marked node say, k is its kind
-module _ (p : List ℕ) (m : ℕ) (k : ℕ) (a b : Bool) (kind : k ≡ kind_byte p m) (block : a ≡ can_repeat k) (one : b ≡ eqb (child_count p m) 1) (ok : Accepted p) (node : m < size p) where
-  marked : (a && b) ≡ can_mark p m
-  unfolding can_mark
-  marked = rw (block, kind, one)
-
-  pub marked-no : (r : ℕ) (out : List ℕ) → length out ≡ 320 → not (a && b) ≡ true → repeat_of p m r out ≡ made 23 0 out
-  marked-no r out long e = call.by-mark p m r out ok long node (failed (a && b) (can_mark p m) marked e)
-
-  pub marked-yes : not (a && b) ≡ false → Template p m
-  marked-yes e = call.mark-told p m ok node (passed (a && b) (can_mark p m) marked e)
+-- a node's kind has its byte
+pub kind-told : {p : List ℕ} {m b : ℕ} {k : Kind} → Accepted p → m < size p → b ≡ kind_byte p m → k ≡ kind_of b → kind_number k ≡ kind_byte p m
+unfolding kind_number kind_of up_from
+kind-told {p} {m} ok l e h = rw (h, e) (between (λ j. kind_number (kind_of j)) (λ j. j) 1 8 refl (kind_byte p m) (ok.low m l) (omega (arith, ok.high m l)))
 
 -- t is what the test of the count says
 pub count_no : {p : List ℕ} {m : ℕ} (r : ℕ) (out : List ℕ) → Template p m → length out ≡ 320 → (t : Bool) → t ≡ times_ok r → not t ≡ true → repeat_of p m r out ≡ made 24 0 out

@@ -1,21 +1,14 @@
 -- The guard writer's answer, a ruling, a verdict, a text's answer, a kept step, a take-back and a naming, as results. Assumes nothing.
-use mathlib.Core.Path.{◌≡◌, sym, ap, ◌∙◌}
-use mathlib.Core.List.{List}
-use Prim.Native.Nat.{ℕ, ◌+◌, ◌*◌, ◌≤◌}
-use native.Mathlib.Omega.{arith}
-use Rattle.event.specs.Event.{event_of}
+use Rattle.std.proofs.Common.{◌≡◌, sym, ap, ◌∙◌, List, ℕ, ◌+◌, ◌*◌, arith}
 use Rattle.writer.specs.Written.{written_number, written_rule, written_length, filled, write_of}
 use Rattle.writer.specs.declared.WrittenGuard.{WrittenGuard}
-use Rattle.writer.specs.declared.Written.{Written}
-use Rattle.writer.specs.declared.Written.TheVariants.{Done, Refused}
-use Rattle.writer.proofs.WriteLaws.{write_done}
-use Rattle.guard.proofs.Short.{guard-short}
+use Rattle.writer.specs.Written.{Done, Refused}
 use Rattle.site.specs.Step.{Stepped, stepped}
-use Rattle.site.specs.declared.Verdict.{Verdict}
+use Rattle.site.specs.Verdict.{Verdict}
 use Rattle.central.specs.Rule.{Ruled, ruled}
-use Rattle.central.specs.declared.Ruling.{Ruling}
+use Rattle.central.specs.Ruling.{Ruling}
 use Rattle.script.specs.Script.{TextRun, text_run}
-use Rattle.script.specs.declared.TextResult.{TextResult}
+use Rattle.script.specs.Script.{TextResult}
 use Rattle.job.specs.Simulation.{simulated}
 use Rattle.journal.specs.declared.Entry.{Entry}
 use Rattle.journal.specs.Journal.{Kept, kept, Undone, undone}
@@ -23,23 +16,18 @@ use Rattle.points.specs.Points.{points, Naming, naming}
 use Rattle.rewind.specs.Return.{Returned, returned}
 use Rattle.results.specs.Result.{result_of, of_written, of_verdict, of_ruling, of_text, AsKept, AsUndone, AsNamed, AsReturned}
 
-module _ (p : List ℕ) (code node : ℕ) (b b' : List ℕ) (w : Written) (h : write_of p code node b ≡ filled b' w) where
-  pub done-short : (g : WrittenGuard) → w ≡ Done g → g.length ≤ 290
-  done-short g e = let d = write_done p code node b b' g (h ∙ ap (filled b') e) in omega (arith, d.long, guard-short p d.valid.plan (event_of code node))
-
-  pub done-result : (g : WrittenGuard) → w ≡ Done g → (r : ℕ) → r ≡ result_of 0 g.rule 0 →
+-- a written guard's result, or its fault's, and the buffer beside it
+module _ (p : List ℕ) (code node : ℕ) (b b' : List ℕ) where
+  pub done-result : (g : WrittenGuard) → write_of p code node b ≡ filled b' (Done g) → (r : ℕ) → r ≡ result_of 0 g.rule 0 →
       (r + 65536 * g.length ≡ of_written (write_of p code node b).answer) × (b' ≡ (write_of p code node b).buffer)
   unfolding of_written written_number written_rule written_length
-  done-result g e r f =
-      let q = h ∙ ap (filled b') e in
+  done-result g h r f =
       let z : r + 65536 * g.length ≡ result_of 0 g.rule g.length = omega (arith, f) in
-      (z ∙ sym (ap (λ s. of_written s.answer) q), sym (ap (λ s. s.buffer) q))
+      (z ∙ sym (ap (λ s. of_written s.answer) h), sym (ap (λ s. s.buffer) h))
 
-  pub refused-result : (n : ℕ) → w ≡ Refused n → (r : ℕ) → r ≡ result_of n 0 0 → (r ≡ of_written (write_of p code node b).answer) × (b' ≡ (write_of p code node b).buffer)
+  pub refused-result : (n : ℕ) → write_of p code node b ≡ filled b' (Refused n) → (r : ℕ) → r ≡ result_of n 0 0 → (r ≡ of_written (write_of p code node b).answer) × (b' ≡ (write_of p code node b).buffer)
   unfolding of_written written_number written_rule written_length
-  refused-result n e r f =
-      let q = h ∙ ap (filled b') e in
-      (f ∙ sym (ap (λ s. of_written s.answer) q), sym (ap (λ s. s.buffer) q))
+  refused-result n h r f = (f ∙ sym (ap (λ s. of_written s.answer) h), sym (ap (λ s. s.buffer) h))
 
 -- a ruling's result, and the bytes beside it
 pub ruling-result : (s : Ruled) (m k : List ℕ) (w : Ruling) → s ≡ ruled m k w → (r : ℕ) → r ≡ of_ruling w → (r ≡ of_ruling s.ruling) × ((m ≡ s.marks) × (k ≡ s.notes))

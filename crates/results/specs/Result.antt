@@ -2,14 +2,14 @@
 use Rattle.std.specs.Prelude.{◌≡◌, List, ℕ, ◌+◌, ◌*◌}
 use Rattle.plan.specs.Made.{Made}
 use Rattle.guard.specs.Rule.{FoundRule}
-use Rattle.writer.specs.declared.Written.{Written}
+use Rattle.writer.specs.Written.{Written}
 use Rattle.writer.specs.Written.{written_number, written_rule, written_length}
 use Rattle.site.specs.declared.Report.{Report}
-use Rattle.site.specs.declared.Verdict.{Verdict}
+use Rattle.site.specs.Verdict.{Verdict}
 use Rattle.site.specs.Verdict.{report_of}
 use Rattle.central.specs.Rule.{ruling_number, ruling_value}
-use Rattle.central.specs.declared.Ruling.{Ruling}
-use Rattle.script.specs.declared.TextResult.{TextResult}
+use Rattle.central.specs.Ruling.{Ruling}
+use Rattle.script.specs.Script.{TextResult}
 use Rattle.journal.specs.declared.Entry.{Entry}
 use Rattle.journal.specs.Journal.{Kept, Undone}
 use Rattle.points.specs.Points.{Naming}

@@ -2,7 +2,8 @@
 -- Definitions only.
 use Rattle.std.specs.Prelude.{Bool, cond, ◌&&◌, ◌||◌, not, List, [], ◌∷◌, ℕ, zero, suc, ◌+◌, ◌*◌, eqb, leb, length, get_or}
 use Rattle.lists.specs.Seq.{all, any, all_below, table}
-use Rattle.plan.specs.Plan.{task, is_kind, kind, parent, size}
+use Rattle.plan.specs.Plan.{is_kind, kind, parent, size}
+use Rattle.plan.specs.declared.kinds.Kind.TheVariants.{Task as task}
 
 -- G1: the table where the house hands in none: frames of a mark and its class
 unfoldable pub common_table : List ℕ

@@ -3,7 +3,11 @@
 #![tactic(auto)]
 
 ghost use Rattle.std.specs.Prelude.{◌≡◌, ◌<◌};
+ghost use Rattle.fault.specs.Number.{number_of};
 ghost use Rattle.retention.specs.Record.{common_table, frame_ok, table_number, fell, counts_above, counts_as, class, classes_into};
+
+use fault::Fault;
+use plan::kinds::Kind;
 
 // The table of classes where the house hands in none.
 pub fn common_table() -> [u8; 12]
@@ -17,30 +21,25 @@ fn frame_ok(table: &[u8], i: usize) -> bool
     requires { i < 6 }
     ensures { result ≡ frame_ok table.now i }
 {
-    if plan::wide(plan::byte_at(table, 2 * i)) != i {
-        return false;
-    }
-    plan::byte_at(table, 2 * i + 1) <= 3
+    usize::from(plan::byte_at(table, 2 * i)) == i && plan::byte_at(table, 2 * i + 1) <= 3
 }
 
-// A table of classes is checked: 0, or 21.
-pub fn check_table(table: &[u8]) -> u8
-    ensures { result ≡ table_number table.now }
+// A table of classes is checked.
+pub fn check_table(table: &[u8]) -> Result<(), Fault>
+    ensures { number_of result ≡ table_number table.now }
 {
     if table.len() != 12 {
-        return 21;
+        return Err(Fault::BadTable);
     }
-    if plan::byte_at(table, 1) != 0 {
-        return 21;
+    if table[1] != 0 {
+        return Err(Fault::BadTable);
     }
-    let mut i = 0;
-    while i < 6 {
+    for i in 0..6 {
         if !frame_ok(table, i) {
-            return 21;
+            return Err(Fault::BadTable);
         }
-        i += 1;
     }
-    0
+    Ok(())
 }
 
 fn fell(mark: u8) -> bool
@@ -55,20 +54,18 @@ fn counts_above(plan: &[u8], marks: &[u8], v: u8) -> u8
 {
     let mut least = 3;
     let mut u = v;
-    let mut left = v;
-    while left != 0 {
+    for _ in 0..v {
         if u == 0 {
             return least;
         }
         u = plan::parent(plan, u);
-        let mark = plan::byte_at(marks, plan::wide(u));
+        let mark = plan::byte_at(marks, usize::from(u));
         if fell(mark) {
             return 5;
         }
         if mark != 3 {
             least = 2;
         }
-        left -= 1;
     }
     least
 }
@@ -77,7 +74,7 @@ fn counts_above(plan: &[u8], marks: &[u8], v: u8) -> u8
 fn counts_as(plan: &[u8], marks: &[u8], v: u8) -> u8
     ensures { result ≡ counts_as plan.now marks.now v }
 {
-    let mark = plan::byte_at(marks, plan::wide(v));
+    let mark = plan::byte_at(marks, usize::from(v));
     if mark != 3 {
         return mark;
     }
@@ -88,12 +85,12 @@ fn counts_as(plan: &[u8], marks: &[u8], v: u8) -> u8
 pub fn class(plan: &[u8], table: &[u8], marks: &[u8], v: u8) -> u8
     ensures { result ≡ class plan.now table.now marks.now v }
 {
-    match plan::kind(plan, v) {
-        2..=8 => 0,
-        _ => {
+    match plan::node_kind(plan, v) {
+        Kind::Task => {
             let mark = counts_as(plan, marks, v);
-            plan::byte_at(table, 2 * plan::wide(mark) + 1)
+            plan::byte_at(table, 2 * usize::from(mark) + 1)
         }
+        _ => 0,
     }
 }
 
@@ -108,9 +105,7 @@ pub fn classify(plan: &[u8], table: &[u8], marks: &[u8], out: &mut [u8])
     if out.len() != n {
         return;
     }
-    let mut v = 0;
-    while v < n {
-        out[v] = class(plan, table, marks, v as u8);
-        v += 1;
+    for (v, x) in out.iter_mut().enumerate() {
+        *x = class(plan, table, marks, v as u8);
     }
 }

@@ -7,6 +7,8 @@ use native.Mathlib.Omega.{arith}
 use lib.Dec.{eqb}
 use lib.ListN.{length, get_or, length-set}
 use borrow.Author.Tests.{ne_eqb, eqb-true, eqb-false}
+use Rattle.std.proofs.Common.{Some, slice_get, sym}
+use Rattle.std.proofs.lemmas.Option.{slice_get-get_or}
 use Rattle.lists.proofs.Logic.{cases, decided}
 use Rattle.plan.specs.Plan.{size}
 use Rattle.event.specs.Site.{Layout}
@@ -16,7 +18,7 @@ use Rattle.job.proofs.StateLaws.{row-unhear}
 use Rattle.layout.specs.Layout.{Laid}
 use Rattle.simulation.proofs.OwnLaws.{laid_kept}
 use Rattle.journal.specs.declared.Entry.{Entry}
-use Rattle.journal.specs.Journal.{target, sited, entry_fault, taken_back, undone}
+use Rattle.journal.specs.Journal.{no_entry, target, sited, entry_fault, taken_back, undone}
 use Rattle.keeping.proofs.UndoLaws.{undo-bad, undo-done}
 use Rattle.rewind.specs.Return.{back_of}
 use Rattle.rewind.specs.Rewound.{last_of, first_fault, rewound}
@@ -35,6 +37,10 @@ module _ (p : List ℕ) (lay : Layout) (row : ℕ → ℕ) where
   pub taken-long : (st : List ℕ) (e : Entry) → entry_fault p lay row e ≡ 0 → (st' : List ℕ) → st' ≡ taken_back p lay row st e → length st' ≡ length st
   taken-long st e z st' back = ap length back ∙ taken-length st e z
 
+  -- the last of some entries is there
+  last-got : (es : List Entry) (k : ℕ) → (k ≡ 0 → ⊥) → k ≤ length es → Some (last_of es k) ≡ slice_get es (k - 1)
+  last-got es k some m = sym (slice_get-get_or es (k - 1) no_entry (omega arith))
+
   -- THE DRY RUN: its number is that of going back, and where it is 0 the state is `rewound`
   pub back-dry : (n : ℕ) (st : List ℕ) (es : List Entry) (k : ℕ) → Laid p lay st → n ≤ k → k ≤ length es →
       ((back_of p lay row n st es k).number ≡ first_fault p lay row es n k)
@@ -47,12 +53,12 @@ module _ (p : List ℕ) (lay : Layout) (row : ℕ → ℕ) where
       cases (decided (eqb (entry_fault p lay row e) 0))
       (λ c. let z = eqb-true (entry_fault p lay row e) 0 c in
       let st' : List ℕ = taken_back p lay row st e in
-      let u = undo-done p lay row st laid e es k (length es) refl m refl some z st' refl in
+      let u = undo-done p lay row st laid e es k m (λ z. absurd (some z)) (λ l. last-got es k some m) z st' refl in
       let r = back-dry n st' es (k - 1) (laid_kept p lay st st' laid (taken-length st e z)) (omega arith) (omega arith) in
       let d : k - suc n ≡ k - 1 - n = omega arith in
       rw (u, c, d) r)
       (λ c. let h = eqb-false (entry_fault p lay row e) 0 c in
-      let u = undo-bad p lay row st laid e es k (length es) refl m refl some (entry_fault p lay row e) refl h in
+      let u = undo-bad p lay row st laid e es k m (λ z. absurd (some z)) (λ l. last-got es k some m) (entry_fault p lay row e) refl h in
       rw (u, c) (refl, λ z. absurd (h z)))
 
 -- THE LOOPS over entries down to a place: the rest says what the whole says

@@ -80,7 +80,7 @@ module _ (p : List ℕ) (lay : Layout) (row : ℕ → ℕ) (st : List ℕ) (laid
     undo-goes = rw ((fit-exact p _).none.1 (laid.plan, fits_all))
 
     pub undo-empty : k ≡ 0 → point_undo_of p lay row st es k names places ≡ returned 16 st k (points names places)
-    undo-empty z = undo-goes ∙ rw (undo-none p lay row st laid (last_of es k) es k (length es) refl within refl z) (returned-left (undone 16 st k) st k names places (λ e. absurd (omega arith)))
+    undo-empty z = undo-goes ∙ rw (undo-none p lay row st laid (last_of es k) es k within (λ l. absurd (omega arith))) (returned-left (undone 16 st k) st k names places (λ e. absurd (omega arith)))
 
     pub undo-way : (k ≡ 0 → ⊥) → (r : Returned) → returned_by (back_of p lay row (k - (k - 1)) st es k) st k names places ≡ r → point_undo_of p lay row st es k names places ≡ r
     undo-way some r h = let e : k - (k - 1) ≡ 1 = omega arith in

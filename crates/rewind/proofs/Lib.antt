@@ -1,5 +1,4 @@
 -- Laws of going back, in the order in which they build on one another.
-pub mod ArrayLaws
 pub mod BackLaws
 pub mod CallLaws
 pub mod OwnLaws

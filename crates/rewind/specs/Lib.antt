@@ -1,5 +1,4 @@
--- Letters: as in journal and points; h what is held, m a move, ms a list of moves, n a number of steps, bs entries as arrays.
-pub mod Arrays
+-- Letters: as in journal and points; h what is held, m a move, ms a list of moves, n a number of steps.
 pub mod Return
 pub mod Rewound
 pub mod Session

@@ -3,7 +3,9 @@ use mathlib.Core.Path.{◌≡◌, refl}
 use mathlib.Core.Bool.{cond, ◌&&◌}
 use mathlib.Core.List.{List, [], ◌∷◌, ◌++◌}
 use Prim.Native.Nat.{ℕ}
-use Rattle.plan.specs.Plan.{Kind, task, serial, and, or, xor, contingency, conditional, waiting, kind_number, is_kind, kind, parent, children, above}
+use Rattle.plan.specs.Plan.{kind_number, is_kind, kind, parent, children, above}
+use Rattle.plan.specs.declared.kinds.Kind.{Kind}
+use Rattle.plan.specs.declared.kinds.Kind.TheVariants.{Task as task, Serial as serial, And as and, Or as or, Xor as xor, Contingency as contingency, Conditional as conditional, Waiting as waiting}
 use Rattle.event.specs.Event.{Code, start, offer, commit, abort, answered-yes, answered-no, pick, down, code_number, same_code, Event}
 use Rattle.guard.specs.Guard.{each, any_of, start_by, finish_by, abort_by, finishing, aborting, guard_by, guard}
 use Rattle.rewrite.specs.Rewrite.{rewritten}

@@ -5,7 +5,9 @@ use mathlib.Core.List.{List, [], ◌∷◌}
 use Prim.Native.Nat.{ℕ, zero, suc}
 use lib.Dec.{eqb}
 use lib.ListN.{get_or, replicate}
-use Rattle.plan.specs.Plan.{Kind, task, serial, and, or, xor, contingency, conditional, waiting, kind_number, is_kind, size, kind, children}
+use Rattle.plan.specs.Plan.{kind_number, is_kind, size, kind, children}
+use Rattle.plan.specs.declared.kinds.Kind.{Kind}
+use Rattle.plan.specs.declared.kinds.Kind.TheVariants.{Task as task, Serial as serial, And as and, Or as or, Xor as xor, Contingency as contingency, Conditional as conditional, Waiting as waiting}
 use Rattle.pass.specs.Pass.{Outcome, works, breaks, fault, Tally, goes_by, goes, bad_answer, bad_pick, closes, good_mark, child_mark, end_of, Settled, Walked, unwalked, child_settled, meet_by, meet, walk, close, settle_if, settle_by, settle, pass}
 use Rattle.rewrite.specs.Rewrite.{rewritten}
 use Rattle.rewrite.proofs.PlanLaws.{renewed, size-kept, kind_at, children-at}

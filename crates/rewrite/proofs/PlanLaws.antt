@@ -10,7 +10,9 @@ use borrow.Author.Tests.{eq-eqb, ne_eqb, eqb-true, ltb-true, ltb-false}
 use Rattle.lists.specs.Seq.{keep, up_from, all_below}
 use Rattle.lists.proofs.Logic.{cases, decided}
 use Rattle.lists.proofs.Table.{table-length, table_at}
-use Rattle.plan.specs.Plan.{Kind, task, serial, and, or, xor, contingency, conditional, waiting, kind_number, is_kind, kind_of, size, kind_byte, kind, parent, children_below, children, child_count, others, above, in_xor, depth_within, depth}
+use Rattle.plan.specs.Plan.{kind_number, is_kind, kind_of, size, kind_byte, kind, parent, children_below, children, child_count, others, above, in_xor, depth_within, depth}
+use Rattle.plan.specs.declared.kinds.Kind.{Kind}
+use Rattle.plan.specs.declared.kinds.Kind.TheVariants.{Task as task, Serial as serial, And as and, Or as or, Xor as xor, Contingency as contingency, Conditional as conditional, Waiting as waiting}
 use Rattle.plan.specs.Check.{length_ok, kind_ok, parent_ok, under_block, fits, count_ok, depth_ok, at_all, check_number}
 use Rattle.plan.proofs.KindLaws.{is-kind}
 use Rattle.rewrite.specs.Rewrite.{rewritten_byte, rewritten}

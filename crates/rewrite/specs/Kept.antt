@@ -1,6 +1,7 @@
 -- What a rewritten plan keeps (rule A7): MAIN CLAIM. Definitions only.
 use Rattle.std.specs.Prelude.{◌≡◌, cond, ◌&&◌, List, [], ◌∷◌, ◌++◌, ℕ}
-use Rattle.plan.specs.Plan.{and, is_kind, kind, children}
+use Rattle.plan.specs.Plan.{is_kind, kind, children}
+use Rattle.plan.specs.declared.kinds.Kind.TheVariants.{And as and}
 use Rattle.plan.specs.Check.{check_number}
 use Rattle.event.specs.Event.{commit, abort, same_code, Event}
 use Rattle.guard.specs.Guard.{Guard, each, any_of, guard}

@@ -4,8 +4,11 @@
 #![tactic(auto)]
 
 ghost use Rattle.std.specs.Prelude.{◌≡◌, length};
+ghost use Rattle.fault.specs.Number.{number_of};
 ghost use Rattle.plan.specs.Replaced.{replaced};
 ghost use Rattle.rewrite.specs.Rewrite.{rewritten_byte, rewritten, rewrite_of};
+
+use fault::Fault;
 
 // Byte i of the rewritten plan.
 fn byte(plan: &[u8], i: usize) -> u8
@@ -19,22 +22,16 @@ fn write(plan: &[u8], out: &mut [u8])
     requires { length out.old ≡ length plan.now }
     ensures { out.new ≡ rewritten plan.now }
 {
-    let n = plan.len();
-    let mut i = 0;
-    while i < n {
-        out[i] = byte(plan, i);
-        i += 1;
+    for (i, b) in out.iter_mut().enumerate() {
+        *b = byte(plan, i);
     }
 }
 
-// The rewritten plan, into `out`: 1 to 6 by the check, 7 where `out` has not the plan's length, and 0 where it is written.
-pub fn rewrite(plan: &[u8], out: &mut [u8]) -> u8
-    ensures { rewrite_of plan.now out.old ≡ replaced result out.new }
+// The rewritten plan, into `out`, which has to have the plan's length.
+pub fn rewrite(plan: &[u8], out: &mut [u8]) -> Result<(), Fault>
+    ensures { rewrite_of plan.now out.old ≡ replaced (number_of result) out.new }
 {
-    let bad = checker::fit(plan, out.len() == plan.len());
-    if bad != 0 {
-        return bad;
-    }
+    checker::fit(plan, out.len() == plan.len())?;
     write(plan, out);
-    0
+    Ok(())
 }

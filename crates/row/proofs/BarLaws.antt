@@ -1,10 +1,6 @@
 -- What bars an event, as the code reads it: codes of the node itself, and for a pick those of its parent's children. Assumes nothing.
-use mathlib.Core.Path.{◌≡◌, refl, sym, ap, ◌∙◌}
-use mathlib.Core.Bool.{Bool, ◌||◌, or_assoc, or-false}
-use mathlib.Core.Logic.{⊎_elim}
-use mathlib.Core.List.{List, [], ◌∷◌, map}
-use Prim.Native.Nat.{ℕ, ◌≤◌}
-use lib.ListN.{get_or}
+use Rattle.std.proofs.Common.{◌≡◌, refl, sym, ap, ◌∙◌, Bool, ◌||◌, ⊎_elim, List, [], ◌∷◌, map, ℕ, ◌≤◌, get_or}
+use mathlib.Core.Bool.{or_assoc, or-false}
 use Rattle.lists.specs.Seq.{any}
 use Rattle.lists.proofs.Members.{any-map}
 use Rattle.plan.specs.Plan.{parent, children}

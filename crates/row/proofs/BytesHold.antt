@@ -1,13 +1,7 @@
 -- A written guard on a row: its bytes say what the list of clauses says, and so does the shape that gives them. Assumes nothing.
-use mathlib.Core.Path.{◌≡◌, refl, sym, ap, ◌∙◌}
-use mathlib.Core.Bool.{Bool, true, false, ◌&&◌, ◌||◌, and-true, and_assoc, or-false}
-use mathlib.Core.List.{List, [], ◌∷◌, ◌++◌, append_assoc, append-nil}
-use Prim.Native.Nat.{ℕ, zero, suc, ◌+◌, ◌*◌}
-use native.Mathlib.Nat.{zero-add, suc-add}
-use native.Mathlib.Omega.{arith}
-use borrow.Author.Tests.{eq-eqb, eqb-true, eqb-false}
-use lib.Dec.{eqb}
-use lib.ListN.{length, drop, get_or}
+use Rattle.std.proofs.Common.{◌≡◌, refl, sym, ap, ◌∙◌, Bool, true, false, ◌&&◌, ◌||◌, List, [], ◌∷◌, ◌++◌, append_assoc, append-nil, ℕ, zero, suc, ◌+◌, ◌*◌, zero-add, suc-add, arith, eq-eqb, eqb-true, eqb, length, drop, get_or}
+use mathlib.Core.Bool.{and-true, and_assoc, or-false}
+use borrow.Author.Tests.{eqb-false}
 use Rattle.lists.proofs.Logic.{cases, decided}
 use Rattle.lists.specs.Seq.{all, any}
 use Rattle.event.specs.Event.{Event, code_number}

@@ -1,12 +1,6 @@
 -- A guard's shape on a row, part by part; the ways over the nodes that it names, a turn at a time; and a node's neighbour. Assumes nothing.
-use mathlib.Core.Path.{◌≡◌, refl, sym, ◌∙◌}
-use mathlib.Core.Bool.{Bool, true, false, ◌&&◌, ◌||◌, not}
-use mathlib.Core.List.{List, [], ◌∷◌}
-use Prim.Native.Nat.{ℕ, zero, suc, pred, ◌+◌, ◌-◌, ◌≤◌, ◌<◌}
-use native.Mathlib.Omega.{arith}
-use borrow.Author.Tests.{eq-eqb, ne_eqb, eqb-true, eqb-false, le-leb}
-use lib.Dec.{eqb}
-use lib.ListN.{take}
+use Rattle.std.proofs.Common.{◌≡◌, refl, sym, ◌∙◌, Bool, true, false, ◌&&◌, ◌||◌, not, List, [], ◌∷◌, ℕ, zero, suc, pred, ◌+◌, ◌-◌, ◌≤◌, ◌<◌, arith, eq-eqb, ne_eqb, eqb-true, le-leb, eqb, take}
+use borrow.Author.Tests.{eqb-false}
 use Rattle.lists.specs.Seq.{all, any, keep, up_from, last_or}
 use Rattle.lists.proofs.Logic.{cases, decided, clash, both}
 use Rattle.lists.proofs.Members.{keep-in, up_in}

@@ -1,9 +1,5 @@
 -- What a row has after an event is set in it (rules B5 and H17). Assumes nothing.
-use mathlib.Core.Path.{◌≡◌, sym, ◌∙◌}
-use mathlib.Core.Bool.{true}
-use mathlib.Core.List.{List}
-use Prim.Native.Nat.{ℕ, ◌≤◌}
-use lib.ListN.{length, get_or}
+use Rattle.std.proofs.Common.{◌≡◌, sym, ◌∙◌, true, List, ℕ, ◌≤◌, length, get_or}
 use lib.Seq.{set-get_or, set_out}
 use Rattle.lists.proofs.Logic.{cases, decided}
 use Rattle.event.specs.Event.{event_of, is_code}

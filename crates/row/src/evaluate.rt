@@ -24,15 +24,13 @@ fn before_or_last(plan: &[u8], u: u8, v: usize, stop: usize) -> usize
 {
     let n = plan::node_count(plan);
     let mut d = v;
-    let mut c = 1;
-    while c < n {
+    for c in 1..n {
         if plan[2 * c + 1] == u {
             if c == stop {
                 return d;
             }
             d = c;
         }
-        c += 1;
     }
     d
 }
@@ -41,11 +39,11 @@ fn before_or_last(plan: &[u8], u: u8, v: usize, stop: usize) -> usize
 fn neighbour(plan: &[u8], code: u8, v: u8) -> usize
     ensures { 1 ≤ code → code ≤ 4 → result ≡ neighbour (code_of code) v (family plan.now (family_parent plan.now (code_of code) v) (left_out (code_of code) v)) }
 {
-    let stop = if code == 1 { plan::wide(v) } else { 0 };
+    let stop = if code == 1 { usize::from(v) } else { 0 };
     before_or_last(
         plan,
         family::family_parent(plan, code, v),
-        plan::wide(v),
+        usize::from(v),
         stop,
     )
 }
@@ -57,15 +55,15 @@ pub(crate) fn shape_of(plan: &[u8], code: u8, v: u8) -> table::Shape
     let b = if names_one(plan, code, v) {
         neighbour(plan, code, v)
     } else {
-        plan::wide(v)
+        usize::from(v)
     };
-    let u = plan::wide(plan::parent(plan, v));
+    let u = usize::from(plan::parent(plan, v));
     table::shape_of(
         code,
         plan::kind(plan, v),
         plan::above(plan, v),
         u,
-        plan::wide(v),
+        usize::from(v),
         b,
     )
 }
@@ -87,19 +85,14 @@ fn clauses_hold(plan: &[u8], u: u8, codes: &[u8], row: &[u8]) -> bool
 {
     let n = plan::node_count(plan);
     let mut holds = true;
-    let mut c = 1;
-    'clause: while c < n {
-        let child = c;
-        c += 1;
+    'clause: for child in 1..n {
         if plan[2 * child + 1] != u {
             continue 'clause;
         }
-        let mut j = 0;
-        while j < codes.len() {
-            if crate::heard(row, codes[j], child) {
+        for &code in codes {
+            if crate::heard(row, code, child) {
                 continue 'clause;
             }
-            j += 1;
         }
         holds = false;
         break 'clause;
@@ -125,16 +118,10 @@ pub(crate) fn any_holds(plan: &[u8], u: u8, skip: u8, code: u8, row: &[u8]) -> b
     ensures { result ≡ any (heard_in row.now code) (family plan.now u skip) }
 {
     let n = plan::node_count(plan);
-    let mut c = 1;
-    while c < n {
-        if plan[2 * c + 1] == u {
-            if c != plan::wide(skip) {
-                if crate::heard(row, code, c) {
-                    return true;
-                }
-            }
+    for c in 1..n {
+        if plan[2 * c + 1] == u && c != usize::from(skip) && crate::heard(row, code, c) {
+            return true;
         }
-        c += 1;
     }
     false
 }

@@ -23,7 +23,7 @@ pub fn heard(row: &[u8], code: u8, node: usize) -> bool
 pub fn set_heard(row: &mut [u8], code: u8, node: u8)
     ensures { row.new ≡ hear row.old code node }
 {
-    let i = plan::wide(node);
+    let i = usize::from(node);
     if i < row.len() {
         row[i] = event::with_bit(row[i], code);
     }
@@ -40,7 +40,7 @@ fn one_of(b: u8, i: u8, j: u8, k: u8) -> bool
 pub fn is_barred(plan: &[u8], code: u8, v: u8, row: &[u8]) -> bool
     ensures { result ≡ barred plan.now (heard row.now) (event_of code v) }
 {
-    let b = plan::byte_at(row, plan::wide(v));
+    let b = plan::byte_at(row, usize::from(v));
     match code {
         1 => one_of(b, 1, 0, 0),
         2 => one_of(b, 2, 4, 0),

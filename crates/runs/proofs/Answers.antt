@@ -13,7 +13,9 @@ use Rattle.lists.proofs.Logic.{cases, no_bool, either, parts, clash, decided}
 use Rattle.lists.proofs.Members.{rising-above}
 use Rattle.lists.proofs.Table.{table-length, table_at}
 use Rattle.lists.proofs.Points.{any_none, earlier-none}
-use Rattle.plan.specs.Plan.{Kind, task, serial, and, or, xor, contingency, conditional, waiting, size, kind, parent, children, in_xor}
+use Rattle.plan.specs.Plan.{size, kind, parent, children, in_xor}
+use Rattle.plan.specs.declared.kinds.Kind.{Kind}
+use Rattle.plan.specs.declared.kinds.Kind.TheVariants.{Task as task, Serial as serial, And as and, Or as or, Xor as xor, Contingency as contingency, Conditional as conditional, Waiting as waiting}
 use Rattle.plan.specs.Check.{Accepted}
 use Rattle.plan.proofs.KindLaws.{same_kind}
 use Rattle.plan.proofs.PlanLaws.{rising-children, child-in}

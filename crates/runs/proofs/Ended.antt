@@ -11,7 +11,9 @@ use Rattle.lists.specs.Member.{In}
 use Rattle.lists.proofs.Logic.{cases, either, and-join, clash, decided}
 use Rattle.lists.proofs.Members.{all-by, any-by}
 use Rattle.lists.proofs.Points.{any_none, all-missed}
-use Rattle.plan.specs.Plan.{Kind, task, serial, and, or, xor, contingency, conditional, waiting, kind_number, is_kind, size, kind, children}
+use Rattle.plan.specs.Plan.{kind_number, is_kind, size, kind, children}
+use Rattle.plan.specs.declared.kinds.Kind.{Kind}
+use Rattle.plan.specs.declared.kinds.Kind.TheVariants.{Task as task, Serial as serial, And as and, Or as or, Xor as xor, Contingency as contingency, Conditional as conditional, Waiting as waiting}
 use Rattle.plan.specs.Check.{Accepted}
 use Rattle.plan.proofs.PlanLaws.{rising-children}
 use Rattle.plan.proofs.AcceptedLaws.{child-between}

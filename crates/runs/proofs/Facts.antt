@@ -10,7 +10,8 @@ use Rattle.lists.specs.Seq.{all, any, earlier}
 use Rattle.lists.specs.Member.{In}
 use Rattle.lists.proofs.Logic.{cases, no_bool, both, either, parts}
 use Rattle.lists.proofs.Members.{any-by, any_at, keep-in}
-use Rattle.plan.specs.Plan.{serial, contingency, size, kind, parent, children, others, above, in_xor}
+use Rattle.plan.specs.Plan.{size, kind, parent, children, others, above, in_xor}
+use Rattle.plan.specs.declared.kinds.Kind.TheVariants.{Serial as serial, Contingency as contingency}
 use Rattle.plan.proofs.PlanLaws.{child-of, child-in}
 use Rattle.event.specs.Event.{offer, pick, at, applies_by, applies}
 use Rattle.central.specs.Mark.{idle, offered, committed, failed, turned_down, mark_number, is_mark}

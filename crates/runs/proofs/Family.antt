@@ -13,7 +13,9 @@ use Rattle.lists.specs.Member.{In, here, there, Rising, next, end}
 use Rattle.lists.proofs.Logic.{cases, same_bool, clash, decided}
 use Rattle.lists.proofs.Members.{all-at, all-by, rising-above}
 use Rattle.lists.proofs.Points.{in-earlier, earlier-in, last-member, last-greatest}
-use Rattle.plan.specs.Plan.{Kind, task, xor, kind_number, is_kind, size, kind, parent, children, above, in_xor}
+use Rattle.plan.specs.Plan.{kind_number, is_kind, size, kind, parent, children, above, in_xor}
+use Rattle.plan.specs.declared.kinds.Kind.{Kind}
+use Rattle.plan.specs.declared.kinds.Kind.TheVariants.{Task as task, Xor as xor}
 use Rattle.plan.proofs.PlanLaws.{Child, child-of}
 use Rattle.plan.proofs.KindLaws.{same_kind}
 use Rattle.guard.specs.Guard.{before_in, is_first}

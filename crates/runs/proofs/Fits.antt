@@ -11,7 +11,9 @@ use Rattle.lists.specs.Seq.{all, any, earlier}
 use Rattle.lists.specs.Member.{In}
 use Rattle.lists.proofs.Logic.{cases, no_bool, parts, clash}
 use Rattle.lists.proofs.Members.{any-by, any_at, any-map, in_some}
-use Rattle.plan.specs.Plan.{Kind, task, serial, and, or, xor, contingency, conditional, waiting, kind_number, is_kind, size, kind, parent, children, others, above, in_xor}
+use Rattle.plan.specs.Plan.{kind_number, is_kind, size, kind, parent, children, others, above, in_xor}
+use Rattle.plan.specs.declared.kinds.Kind.{Kind}
+use Rattle.plan.specs.declared.kinds.Kind.TheVariants.{Task as task, Serial as serial, And as and, Or as or, Xor as xor, Contingency as contingency, Conditional as conditional, Waiting as waiting}
 use Rattle.plan.specs.Check.{Accepted}
 use Rattle.plan.proofs.PlanLaws.{rising-children, child-in}
 use Rattle.event.specs.Event.{Code, start, offer, commit, abort, answered-yes, answered-no, pick, down, at, applies_by, applies}

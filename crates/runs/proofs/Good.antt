@@ -11,7 +11,9 @@ use Rattle.lists.specs.Member.{In}
 use Rattle.lists.proofs.Logic.{cases, either, and-join, parts, clash, decided}
 use Rattle.lists.proofs.Members.{any-by}
 use Rattle.lists.proofs.Points.{or-grows, all-grows, any-grows}
-use Rattle.plan.specs.Plan.{Kind, task, serial, and, or, xor, contingency, conditional, waiting, size, kind, parent, children, others, above, in_xor}
+use Rattle.plan.specs.Plan.{size, kind, parent, children, others, above, in_xor}
+use Rattle.plan.specs.declared.kinds.Kind.{Kind}
+use Rattle.plan.specs.declared.kinds.Kind.TheVariants.{Task as task, Serial as serial, And as and, Or as or, Xor as xor, Contingency as contingency, Conditional as conditional, Waiting as waiting}
 use Rattle.plan.proofs.PlanLaws.{child-in}
 use Rattle.event.specs.Event.{start, offer, commit, abort, answered-yes, answered-no, pick, down, Event, at, same, applies_by, applies}
 use Rattle.central.specs.Mark.{offered, committed, failed, turned_down}

@@ -12,7 +12,8 @@ use Rattle.lists.specs.Member.{In, here, there, Rising, end, next}
 use Rattle.lists.proofs.Logic.{no_bool, both}
 use Rattle.lists.proofs.Members.{all-at, any_at, all_map, any-map, all_append}
 use Rattle.lists.proofs.Points.{some_in, last-member}
-use Rattle.plan.specs.Plan.{Kind, task, serial, and, or, xor, contingency, conditional, waiting}
+use Rattle.plan.specs.declared.kinds.Kind.{Kind}
+use Rattle.plan.specs.declared.kinds.Kind.TheVariants.{Task as task, Serial as serial, And as and, Or as or, Xor as xor, Contingency as contingency, Conditional as conditional, Waiting as waiting}
 use Rattle.event.specs.Event.{Code, commit, abort, Event, at}
 use Rattle.guard.specs.Guard.{finish_by, abort_by, holds}
 use Rattle.central.specs.Central.{Answer, none, said-yes, said-no, Central, is_yes, is_no, of_branch, finishes_by, fails_by}

@@ -16,7 +16,9 @@ use Rattle.lists.proofs.Logic.{cases, no_bool, parts, clash, decided}
 use Rattle.lists.proofs.Members.{all-at, any_at}
 use Rattle.lists.proofs.Table.{table-by}
 use Rattle.lists.proofs.Points.{any-grows}
-use Rattle.plan.specs.Plan.{Kind, task, serial, and, or, xor, contingency, conditional, waiting, kind_number, is_kind, size, kind, children, above, in_xor}
+use Rattle.plan.specs.Plan.{kind_number, is_kind, size, kind, children, above, in_xor}
+use Rattle.plan.specs.declared.kinds.Kind.{Kind}
+use Rattle.plan.specs.declared.kinds.Kind.TheVariants.{Task as task, Serial as serial, And as and, Or as or, Xor as xor, Contingency as contingency, Conditional as conditional, Waiting as waiting}
 use Rattle.plan.specs.Check.{Accepted}
 use Rattle.plan.proofs.AcceptedLaws.{child-between}
 use Rattle.plan.proofs.UnderLaws.{under-below, through, under-root}

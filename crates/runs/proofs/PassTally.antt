@@ -15,7 +15,8 @@ use Rattle.lists.specs.Member.{In}
 use Rattle.lists.proofs.Logic.{cases, clash, decided}
 use Rattle.lists.proofs.Members.{in-none}
 use Rattle.lists.proofs.Points.{in-snoc, any_snoc}
-use Rattle.plan.specs.Plan.{xor, size, kind, parent}
+use Rattle.plan.specs.Plan.{size, kind, parent}
+use Rattle.plan.specs.declared.kinds.Kind.TheVariants.{Xor as xor}
 use Rattle.plan.specs.Check.{Accepted}
 use Rattle.plan.specs.Under.{Under, self, up, Below}
 use Rattle.plan.proofs.AcceptedLaws.{parent-child}

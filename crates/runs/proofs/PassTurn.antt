@@ -14,7 +14,9 @@ use Rattle.lists.specs.Member.{In, here}
 use Rattle.lists.proofs.Logic.{cases, same_bool, no_bool, clash, decided}
 use Rattle.lists.proofs.Members.{all-at, all-by, any_at, in_some}
 use Rattle.lists.proofs.Points.{any_none, in_right, any-keep, in-earlier, earlier-in, earlier-split, place-injective}
-use Rattle.plan.specs.Plan.{Kind, task, serial, and, or, xor, contingency, conditional, waiting, kind_number, is_kind, size, kind, children}
+use Rattle.plan.specs.Plan.{kind_number, is_kind, size, kind, children}
+use Rattle.plan.specs.declared.kinds.Kind.{Kind}
+use Rattle.plan.specs.declared.kinds.Kind.TheVariants.{Task as task, Serial as serial, And as and, Or as or, Xor as xor, Contingency as contingency, Conditional as conditional, Waiting as waiting}
 use Rattle.plan.specs.Check.{Accepted}
 use Rattle.plan.proofs.KindLaws.{same_kind}
 use Rattle.plan.proofs.PlanLaws.{rising-children, child-of}

@@ -13,7 +13,8 @@ use Rattle.lists.specs.Seq.{any}
 use Rattle.lists.specs.Member.{In, here, there, Rising, end, next}
 use Rattle.lists.proofs.Logic.{cases, clash, decided}
 use Rattle.lists.proofs.Members.{any-by, any_at, in-keep}
-use Rattle.plan.specs.Plan.{conditional, kind_number, is_kind, size, kind, parent, children, others, in_xor}
+use Rattle.plan.specs.Plan.{kind_number, is_kind, size, kind, parent, children, others, in_xor}
+use Rattle.plan.specs.declared.kinds.Kind.TheVariants.{Conditional as conditional}
 use Rattle.plan.specs.Check.{Accepted}
 use Rattle.plan.proofs.PlanLaws.{child-of}
 use Rattle.event.specs.Event.{Code, start, offer, commit, abort, answered-yes, pick, down, at, applies_by, applies}

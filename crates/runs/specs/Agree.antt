@@ -1,7 +1,8 @@
 -- When answers agree with a run (rule I9). Definitions only.
 use Rattle.std.specs.Prelude.{◌≡◌, Bool, true, false, ◌||◌, List, ℕ, suc, length, get_or}
 use Rattle.lists.specs.Seq.{any, earlier}
-use Rattle.plan.specs.Plan.{task, xor, kind, parent, children}
+use Rattle.plan.specs.Plan.{kind, parent, children}
+use Rattle.plan.specs.declared.kinds.Kind.TheVariants.{Task as task, Xor as xor}
 use Rattle.event.specs.Event.{start, offer, commit, abort, answered-yes, answered-no, pick, Event, at}
 
 -- F1: the place, from 1, of v among its parent's children

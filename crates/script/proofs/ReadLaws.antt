@@ -19,7 +19,7 @@ use Rattle.text.specs.declared.Counts.{Counts}
 use Rattle.text.proofs.TextLaws.{table_at, table-lines, no-table-at}
 use Rattle.text.proofs.CallLaws.{no_table, front-is, front-all, table-bytes, ReadTold}
 use Rattle.script.specs.Script.{simulation_lines, table_of, text_number, text_lines, text_run, refused, lines_into, run_text_into, read_number}
-use Rattle.script.specs.declared.TextResult.{TextResult}
+use Rattle.script.specs.Script.{TextResult}
 use Rattle.script.proofs.ScriptLaws.{text-refused, text-table, text-plan}
 
 -- the table that was read into the common one: h is its bytes in the text, r the number that the code tells

@@ -8,6 +8,9 @@ use native.Mathlib.Omega.{arith}
 use borrow.Author.Tests.{ne_eqb, eqb-true, eqb-false, ltb-false, lt-ltb, le-ltb}
 use lib.Dec.{eqb, ltb}
 use lib.ListN.{length, take, drop, length-append}
+use Rattle.std.specs.Prelude.{Result, Ok, Err, IsErrAnd}
+use Rattle.fault.specs.declared.Fault.{Fault}
+use Rattle.fault.specs.Number.{fault_number}
 use Rattle.lists.specs.Put.{Put}
 use Rattle.lists.proofs.Logic.{cases, decided}
 use Rattle.lists.proofs.PutLaws.{put_front_lem, put-append}
@@ -22,14 +25,15 @@ use Rattle.simulation.specs.Run.{steps_of}
 use Rattle.text.specs.Text.{body, step_lines, well_formed, plan_bytes, step_bytes}
 use Rattle.text.specs.Calls.{Printing, printing}
 use Rattle.text.proofs.CallLaws.{step-bytes, steps-few}
-use Rattle.script.specs.Script.{number_line, number_lines, node_lines, simulation_lines, table_of, text_number, text_lines, number_or_lines, printed, rehearse_into, TextRun, text_run, refused, text_done, lines_into, run_text_into}
-use Rattle.script.specs.declared.TextResult.{TextResult}
+use Rattle.script.specs.Script.{number_line, number_lines, node_lines, simulation_lines, table_of, text_number, text_lines, number_or_lines, printed, rehearse_into, TextRun, text_run, text_result, refused, text_done, lines_into, run_text_into}
+use Rattle.script.specs.Script.{TextResult}
 use Rattle.script.proofs.LineLaws.{number-length, numbers-length, nodes-length}
 use Rattle.script.proofs.SimulationLaws.{RunTold, numbers-count, frames-count}
 
--- the answer q that the code has
-pub answered : {x : TextRun} {r : TextResult} {b : List ℕ} {q : TextResult} → x ≡ text_run r b → q ≡ r → x ≡ text_run q b
-answered h e = rw e h
+-- a call that passed, or that hands on a fault
+pub refused-is : (r : Result ℕ Fault) (e : Fault) → IsErrAnd r (λ y. y ≡ e) → text_result r ≡ refused (fault_number e)
+refused-is (Ok x) e h = absurd h
+refused-is (Err f) e h = ap (λ y. refused (fault_number y)) h
 
 -- the line of a number alone, or lines
 module _ (n : ℕ) (ls : List ℕ) where

@@ -1,5 +1,5 @@
 -- What a text gives (rules H0, J2 to J5): its number, what is printed for it and that this always fits, and the two calls. Definitions only.
-use Rattle.std.specs.Prelude.{◌≡◌, false, cond, ◌&&◌, ◌||◌, not, ℕ, ◌+◌, ◌*◌, ◌/◌, ◌≤◌, ◌<◌, eqb, leb, ltb, length, get_or, take, drop, replicate}
+use Rattle.std.specs.Prelude.{◌≡◌, false, cond, ◌&&◌, ◌||◌, not, ℕ, ◌+◌, ◌*◌, ◌/◌, ◌≤◌, ◌<◌, eqb, leb, ltb, length, get_or, take, drop, replicate, Result}
 use mathlib.Core.List.{List, [], ◌∷◌, ◌++◌, flat_map, flatten}
 use Rattle.lists.specs.Seq.{up_from}
 use Rattle.plan.specs.Plan.{size, kind_byte}
@@ -11,7 +11,8 @@ use Rattle.simulation.specs.Run.{steps_of}
 use Rattle.text.specs.Hex.{hex_line}
 use Rattle.text.specs.Text.{has_table, plan_lines, step_lines, body_formed, well_formed, table_bytes, plan_bytes, step_bytes}
 use Rattle.text.specs.Calls.{Printing, printing}
-use Rattle.script.specs.declared.TextResult.{TextResult}
+use Rattle.fault.specs.declared.Fault.{Fault}
+use Rattle.fault.specs.Number.{number_of, value_of}
 
 -- J3: a line for a number, and for a node: its number, kind, mark and class
 unfoldable pub number_line : ℕ → List ℕ
@@ -56,6 +57,14 @@ printed t = number_or_lines (text_number t) (text_lines t)
 -- J5: printed at the front of b; a buffer that is shorter than 16,384 bytes is left
 unfoldable pub rehearse_into : List ℕ → List ℕ → Printing
 rehearse_into t b = cond (ltb (length b) 16384) (printing 0 b) (printing (length (printed t)) (printed t ++ drop (length (printed t)) b))
+
+-- H0, J5: what a text gives: its number, and the length of what it printed, 0 where it is refused
+pub record TextResult : Type 0 where
+  pub number : ℕ
+  pub length : ℕ
+
+abbrev pub text_result : Result ℕ Fault → TextResult
+text_result r = record { number = number_of r; length = value_of r }
 
 -- J5: a text as a call: its number, the length of its lines, and the buffer afterwards
 pub record TextRun : Type 0 where

@@ -3,6 +3,7 @@
 #![tactic(auto)]
 
 ghost use Rattle.std.specs.Prelude.{◌≡◌, ◌+◌, ◌*◌, ◌%◌, ◌≤◌, length};
+ghost use Rattle.fault.specs.Number.{number_of};
 ghost use Rattle.lists.specs.Put.{Put};
 ghost use Rattle.plan.specs.Plan.{size};
 ghost use Rattle.plan.specs.Check.{check_number};
@@ -11,20 +12,9 @@ ghost use Rattle.retention.specs.Record.{table_number, record_of};
 ghost use Rattle.job.specs.Simulation.{end_marks};
 ghost use Rattle.simulation.specs.Run.{steps_of};
 ghost use Rattle.text.specs.Calls.{printing};
-ghost use Rattle.script.specs.Script.{number_line, node_line, number_lines, node_lines, simulation_lines, rehearse_into, text_run, refused, lines_into, run_text_into, read_number, AllZero};
+ghost use Rattle.script.specs.Script.{number_line, node_line, number_lines, node_lines, simulation_lines, rehearse_into, text_run, text_result, lines_into, run_text_into, read_number, AllZero};
 
-// What a text gives: its number, and the length of what it printed, 0 where it is refused.
-#[derive(Drop)]
-pub struct TextResult {
-    pub number: u8,
-    pub length: usize,
-}
-
-fn refused(number: u8) -> TextResult
-    ensures { result ≡ refused number }
-{
-    TextResult { number, length: 0 }
-}
+use fault::Fault;
 
 // The line of a number.
 fn put_number(number: u8, out: &mut [u8], at: usize) -> usize
@@ -41,10 +31,8 @@ fn put_numbers(numbers: &[u8], out: &mut [u8]) -> usize
     ensures { Put (number_lines numbers.now) out.old 0 out.new result }
 {
     let mut w = 0;
-    let mut i = 0;
-    while i < numbers.len() {
-        w = put_number(numbers[i], out, w);
-        i += 1;
+    for &number in numbers {
+        w = put_number(number, out, w);
     }
     w
 }
@@ -54,7 +42,7 @@ fn put_node(plan: &[u8], marks: &[u8], classes: &[u8], v: u8, out: &mut [u8], at
     requires { at + 9 ≤ length out.old }
     ensures { Put (node_line plan.now (record { marks = marks.entry.now; classes = classes.now }) v) out.old at out.new result }
 {
-    let i = plan::wide(v);
+    let i = usize::from(v);
     let k = plan::kind(plan, v);
     let mark = plan::byte_at(marks, i);
     let class = plan::byte_at(classes, i);
@@ -70,19 +58,17 @@ fn put_nodes(plan: &[u8], marks: &[u8], classes: &[u8], out: &mut [u8], at: usiz
 {
     let n = plan::node_count(plan);
     let mut w = at;
-    let mut v = 0;
-    while v < n {
+    for v in 0..n {
         w = put_node(plan, marks, classes, v as u8, out, w);
-        v += 1;
     }
     w
 }
 
-// Room for one byte a node.
-fn node_buffer() -> [u8; 160]
-    ensures { 160 ≡ length result }
+// Zeros, as many as their place has room for.
+fn zeros<const N: usize>() -> [u8; N]
+    ensures { AllZero N result }
 {
-    [0; 160]
+    [0; N]
 }
 
 // A line for each node, by the record of a state and a table.
@@ -93,96 +79,64 @@ fn put_record(plan: &[u8], tab: &[u8], state: &[u8], out: &mut [u8], at: usize) 
     ensures { Put (node_lines plan.now (record_of plan.now tab.now (end_marks plan.now (own plan.now) state.now))) out.old at out.new result }
 {
     let n = plan::node_count(plan);
-    let mut marks = node_buffer();
-    let mut classes = node_buffer();
-    simulation::record_by(plan, tab, state, &mut marks[..n], &mut classes[..n]);
+    let mut marks = zeros::<NODES>();
+    let mut classes = zeros::<NODES>();
+    // no fault: the table, the plan and the lengths are right
+    let _ = simulation::record_by(plan, tab, state, &mut marks[..n], &mut classes[..n]);
     put_nodes(plan, &marks[..n], &classes[..n], out, at)
 }
 
-// A state of zeros, large enough for every plan.
-fn fresh_state() -> [u8; 25600]
-    ensures { AllZero 25600 result }
-{
-    [0; 25600]
-}
+// A plan has at most 160 nodes, and a text of 32,768 bytes at most 4,681 steps.
+const NODES: usize = 160;
 
-// Room for the numbers of as many steps as fit into a text.
-fn number_buffer() -> [u8; 4681]
-    ensures { 4681 ≡ length result }
-{
-    [0; 4681]
-}
+const STEPS: usize = 4681;
 
-// A plan and steps in frames of three bytes, by a table: the plan's number, 7 where `out` is too short, or the lines at its front.
-fn run_plan(plan: &[u8], tab: &[u8], steps: &[u8], out: &mut [u8]) -> TextResult
+// A plan and steps in frames of three bytes, by a table: the plan's fault, or `out` is too short, or the lines at its front and their length.
+fn run_plan(plan: &[u8], tab: &[u8], steps: &[u8], out: &mut [u8]) -> Result<usize, Fault>
     requires tab_value { table_number tab.now ≡ 0 }
     requires plan_len_bound { length plan.now ≤ 320 }
     requires steps_len_bound { (length steps.now ≤ 14043) × (length steps.now % 3 ≡ 0) }
-    ensures { lines_into (check_number plan.now) (simulation_lines tab.now plan.now (steps_of steps.now)) out.old ≡ text_run result out.new }
+    ensures { lines_into (check_number plan.now) (simulation_lines tab.now plan.now (steps_of steps.now)) out.old ≡ text_run (text_result result) out.new }
 {
     let n = plan::node_count(plan);
     let cells = n * n;
     let m = steps.len() / 3;
-    let mut state = fresh_state();
-    let mut numbers = number_buffer();
-    let number = simulation::run(plan, steps, &mut state[..cells], &mut numbers[..m]);
-    if number != 0 {
-        return refused(number);
-    }
+    let mut state = zeros::<25600>();
+    let mut numbers = zeros::<STEPS>();
+    simulation::run(plan, steps, &mut state[..cells], &mut numbers[..m])?;
     if out.len() < 16384 {
-        return refused(7);
+        return Err(Fault::BadBuffer);
     }
     let w = put_numbers(&numbers[..m], out);
-    let length = put_record(plan, tab, &state[..cells], out, w);
-    TextResult { number: 0, length }
+    Ok(put_record(plan, tab, &state[..cells], out, w))
 }
 
-// Room for the plan's bytes, and for those of as many steps as fit into a text.
-fn plan_buffer() -> [u8; 320]
-    ensures { 320 ≡ length result }
+// A table that was read into 12 bytes is checked, by its bytes in the text: none, or six lines.
+fn check_table(head: usize, tab: &[u8]) -> Result<(), Fault>
+    ensures { number_of result ≡ read_number head tab.now }
 {
-    [0; 320]
-}
-
-fn step_buffer() -> [u8; 14043]
-    ensures { 14043 ≡ length result }
-{
-    [0; 14043]
-}
-
-// The number of a table that was read into 12 bytes, by its bytes in the text.
-fn table_number(head: usize, tab: &[u8]) -> u8
-    ensures { result ≡ read_number head tab.now }
-{
-    if head == 0 {
-        return retention::check_table(tab);
-    }
-    if head != 33 {
-        return 21;
+    if head != 0 && head != 33 {
+        return Err(Fault::BadTable);
     }
     retention::check_table(tab)
 }
 
-// Runs a text: its number, 15, 21 or 1 to 6, then 7 where `out` is shorter than 16,384 bytes; these leave `out`. On 0 its lines stand at the front
-// of `out`.
-pub fn run_text(text: &[u8], out: &mut [u8]) -> TextResult
-    ensures { run_text_into text.now out.old ≡ text_run result out.new }
+// Runs a text: its fault, 15, 21 or 1 to 6, then 7 where `out` is shorter than 16,384 bytes; these leave `out`. Else its lines stand at the front
+// of `out`, and their length is told.
+pub fn run_text(text: &[u8], out: &mut [u8]) -> Result<usize, Fault>
+    ensures { run_text_into text.now out.old ≡ text_run (text_result result) out.new }
 {
     let mut tab = retention::common_table();
-    let mut plan = plan_buffer();
-    let mut steps = step_buffer();
-    let counts = text::read(text, &mut tab, &mut plan, &mut steps);
-    if !counts.ok {
-        return refused(15);
-    }
-    let bad = table_number(counts.head, &tab);
-    if bad != 0 {
-        return refused(bad);
-    }
+    let mut plan = zeros::<320>();
+    let mut steps = zeros::<14043>();
+    let Some(counts) = text::read(text, &mut tab, &mut plan, &mut steps) else {
+        return Err(Fault::BadText);
+    };
+    check_table(counts.head, &tab)?;
     let n = counts.plan;
     let m = counts.steps;
-    if 160 < n {
-        return refused(1);
+    if NODES < n {
+        return Err(Fault::BadLength);
     }
     let a = 2 * n;
     let b = 3 * m;
@@ -197,9 +151,8 @@ pub fn rehearse(text: &[u8], out: &mut [u8]) -> usize
     if out.len() < 16384 {
         return 0;
     }
-    let r = run_text(text, out);
-    if r.number != 0 {
-        return put_number(r.number, out, 0);
+    match run_text(text, out) {
+        Ok(length) => length,
+        Err(fault) => put_number(u8::from(fault), out, 0),
     }
-    r.length
 }

@@ -1,5 +1,4 @@
 -- Laws that the proofs here and in upper crates cite.
-pub mod SquareLaws
 pub mod OwnLaws
 pub mod RunLaws
 pub mod RecordLaws

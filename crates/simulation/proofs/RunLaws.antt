@@ -8,7 +8,7 @@ use borrow.Author.Tests.{ne_eqb}
 use lib.ListN.{length, get_or, take, set, length-set}
 use lib.Seq.{take-suc-set, take-length}
 use Rattle.event.specs.Site.{own}
-use Rattle.site.specs.declared.Verdict.{Verdict}
+use Rattle.site.specs.Verdict.{Verdict}
 use Rattle.site.specs.Verdict.{verdict_number}
 use Rattle.job.specs.Simulation.{Step, step_from, Simulated, simulated, simulate, replay_from, numbers_from}
 use Rattle.simulation.specs.Run.{simulate_of, steps_from, steps_of, ran, run_number, run_of}

@@ -3,19 +3,16 @@
 // holds is the crate results's.
 #![tactic(auto)]
 
-ghost use Rattle.std.specs.Prelude.{◌≡◌, List, ◌-◌, length, get_or, set};
-ghost use Rattle.journal.specs.Journal.{no_entry};
+ghost use Rattle.std.specs.Prelude.{◌≡◌};
 ghost use Rattle.simulation.specs.Run.{simulate_of};
 ghost use Rattle.script.specs.Script.{run_text_into};
 ghost use Rattle.workload.specs.Call.{load_of};
 ghost use Rattle.keeping.specs.Keeping.{keep_own, undo_own};
 ghost use Rattle.points.specs.Points.{name_of};
-ghost use Rattle.rewind.specs.Arrays.{entries_of};
 ghost use Rattle.rewind.specs.Return.{point_undo_own, point_back_own};
 ghost use Rattle.results.specs.Result.{result_of, of_verdict, of_text, AsKept, AsUndone, AsNamed, AsReturned};
 
 use journal::Entry;
-use results::KeptResult;
 
 #[unsafe(no_mangle)]
 pub extern "C" fn vulcedar_simulate(
@@ -31,27 +28,6 @@ pub extern "C" fn vulcedar_simulate(
     results::of_verdict(simulation::simulate(plan, code, node, site, state))
 }
 
-fn keep_result(
-    plan: &[u8],
-    code: u32,
-    node: u32,
-    site: u32,
-    state: &mut [u8],
-    len: usize,
-    count: &mut usize,
-) -> KeptResult
-    ensures { ((es : List Entry) → length es ≡ len → AsKept (keep_own plan.now state.old es count.old code node site) result.result state.new (set es result.at result.entry) count.new) }
-{
-    let a = keeping::keep(plan, code, node, site, state, len, count);
-    let verdict = a.verdict;
-    let entry = a.entry;
-    KeptResult {
-        result: results::of_verdict(verdict),
-        at: a.at,
-        entry,
-    }
-}
-
 #[unsafe(no_mangle)]
 pub extern "C" fn vulcedar_keep(
     plan: &[u8],
@@ -64,16 +40,7 @@ pub extern "C" fn vulcedar_keep(
 ) -> u32
     ensures { AsKept (keep_own plan.now state.old entries.old count.old code node site) result state.new entries.new count.new }
 {
-    let len = entries.len();
-    let a = keep_result(plan, code, node, site, state, len, count);
-    journal::append(entries, a.at, a.entry);
-    a.result
-}
-
-fn undo_result(plan: &[u8], state: &mut [u8], len: usize, count: &mut usize, e: Entry) -> u32
-    ensures { ((es : List Entry) → length es ≡ len → get_or es (count.old - 1) no_entry ≡ e → AsUndone (undo_own plan.now state.old es count.old) result state.new count.new) }
-{
-    results::packed(keeping::undo(plan, state, len, count, e), 0)
+    results::of_verdict(keeping::keep(plan, code, node, site, state, entries, count))
 }
 
 #[unsafe(no_mangle)]
@@ -85,9 +52,7 @@ pub extern "C" fn vulcedar_undo(
 ) -> u32
     ensures { AsUndone (undo_own plan.now state.old entries.now count.old) result state.new count.new }
 {
-    let len = entries.len();
-    let e = journal::entry_at(entries, journal::last_place(*count));
-    undo_result(plan, state, len, count, e)
+    results::of_done(keeping::undo(plan, state, entries, count))
 }
 
 #[unsafe(no_mangle)]
@@ -99,22 +64,21 @@ pub extern "C" fn vulcedar_point_name(
 ) -> u32
     ensures { AsNamed (name_of name.now count names.old places.old) result names.new places.new }
 {
-    results::packed(points::name_point(name, count, names, places), 0)
+    results::of_done(points::name_point(name, count, names, places))
 }
 
 #[unsafe(no_mangle)]
 pub extern "C" fn vulcedar_point_undo(
     plan: &[u8],
     state: &mut [u8],
-    entries: &[[u8; 4]],
+    entries: &[Entry],
     count: &mut usize,
     names: &mut [u8],
     places: &mut [u64],
 ) -> u32
-    ensures { AsReturned (point_undo_own plan.now state.old (entries_of entries.now) count.old names.old places.old) result state.new count.new names.new places.new }
+    ensures { AsReturned (point_undo_own plan.now state.old entries.now count.old names.old places.old) result state.new count.new names.new places.new }
 {
-    let undone = rewind::point_undo(plan, state, entries, count, names, places);
-    results::packed(undone, 0)
+    results::of_done(rewind::point_undo(plan, state, entries, count, names, places))
 }
 
 #[unsafe(no_mangle)]
@@ -122,15 +86,14 @@ pub extern "C" fn vulcedar_point_back(
     plan: &[u8],
     name: &[u8],
     state: &mut [u8],
-    entries: &[[u8; 4]],
+    entries: &[Entry],
     count: &mut usize,
     names: &mut [u8],
     places: &mut [u64],
 ) -> u32
-    ensures { AsReturned (point_back_own plan.now name.now state.old (entries_of entries.now) count.old names.old places.old) result state.new count.new names.new places.new }
+    ensures { AsReturned (point_back_own plan.now name.now state.old entries.now count.old names.old places.old) result state.new count.new names.new places.new }
 {
-    let gone = rewind::point_back(plan, name, state, entries, count, names, places);
-    results::packed(gone, 0)
+    results::of_done(rewind::point_back(plan, name, state, entries, count, names, places))
 }
 
 #[unsafe(no_mangle)]
@@ -138,8 +101,10 @@ pub extern "C" fn vulcedar_rehearse(text: &[u8], out: &mut [u8]) -> u32
     ensures value { result ≡ of_text (run_text_into text.now out.old).result }
     ensures out_after { out.new ≡ (run_text_into text.now out.old).out }
 {
-    let r = script::run_text(text, out);
-    results::packed(r.number, 0) + 65536 * (r.length as u32)
+    match script::run_text(text, out) {
+        Ok(length) => 65536 * (length as u32),
+        Err(fault) => results::of_fault(fault),
+    }
 }
 
 #[unsafe(no_mangle)]
@@ -147,5 +112,5 @@ pub extern "C" fn vulcedar_workload(plan: &[u8], seed: u32, count: u32, out: &mu
     ensures value { result ≡ result_of (load_of plan.now seed count out.old).number 0 0 }
     ensures out_after { out.new ≡ (load_of plan.now seed count out.old).out }
 {
-    results::packed(workload::workload(plan, seed, count, out), 0)
+    results::of_done(workload::workload(plan, seed, count, out))
 }

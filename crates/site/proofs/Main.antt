@@ -1,18 +1,14 @@
 -- The theorem of this crate: an only child is never turned down (specs/Only.antt). Assumes nothing.
-use mathlib.Core.Path.{◌≡◌, refl}
-use mathlib.Core.Bool.{Bool, true, false, cond, not, and-false}
-use mathlib.Core.List.{List, [], ◌∷◌}
-use Prim.Native.Nat.{ℕ}
-use lib.Dec.{eqb}
-use borrow.Author.Tests.{eq-eqb}
+use Rattle.std.proofs.Common.{◌≡◌, refl, Bool, true, false, cond, not, List, [], ◌∷◌, ℕ, eqb, eq-eqb}
+use mathlib.Core.Bool.{and-false}
 use Rattle.lists.specs.Seq.{all, any, keep, up_from}
 use Rattle.plan.specs.Plan.{size, parent, children_below, children, others}
 use Rattle.event.specs.Event.{Event, down, at, code_number, code_of, event_of}
 use Rattle.guard.specs.Guard.{guard_by, guard, holds, barred}
 use Rattle.guard.specs.Bytes.{enc_events, enc_clauses, encode}
-use Rattle.site.specs.declared.Refusal.{Refusal}
-use Rattle.site.specs.declared.Refusal.TheVariants.{Invalid, Barred, Unmet}
-use Rattle.site.specs.declared.Verdict.TheVariants.{Refused}
+use Rattle.site.specs.Verdict.{Refusal}
+use Rattle.site.specs.Verdict.{Invalid, Barred, Unmet}
+use Rattle.site.specs.Verdict.{Refused}
 use Rattle.row.specs.Row.{heard}
 use Rattle.site.specs.Step.{stepped, step_invalid, site_at, decide, step_at, step_of}
 use Rattle.site.specs.Only.{Declined, NeverDown, OnlyChild}

@@ -1,21 +1,16 @@
 -- A step and a message by cases: which answer they give, and what they leave (rules H10, H11, H16 and H17). Assumes nothing.
-use mathlib.Core.Path.{◌≡◌, refl}
-use mathlib.Core.Bool.{Bool, true, false, cond, not, ◌&&◌}
-use mathlib.Core.List.{List}
-use Prim.Native.Nat.{ℕ}
-use borrow.Author.Tests.{eqb-true, eqb-false, eq-eqb, ne_eqb}
-use lib.Dec.{eqb}
-use lib.ListN.{length}
+use Rattle.std.proofs.Common.{◌≡◌, ◌∙◌, refl, Bool, true, false, cond, not, ◌&&◌, List, ℕ, eqb-true, eq-eqb, ne_eqb, eqb, length}
+use borrow.Author.Tests.{eqb-false}
 use Rattle.lists.proofs.Logic.{cases, decided}
 use Rattle.plan.specs.Plan.{size}
 use Rattle.event.specs.Event.{event_of}
-use Rattle.event.specs.Valid.{Valid}
+use Rattle.event.specs.Valid.{invalid, Valid}
 use Rattle.event.proofs.ValidLaws.{valid}
 use Rattle.guard.specs.Guard.{guard, holds, barred}
 use Rattle.guard.specs.Rule.{rule_byte}
 use Rattle.row.specs.Row.{heard, hear}
-use Rattle.site.specs.declared.Refusal.TheVariants.{Invalid, Barred, Unmet}
-use Rattle.site.specs.declared.Verdict.TheVariants.{Passed, Heard, Refused}
+use Rattle.site.specs.Verdict.{Invalid, Barred, Unmet}
+use Rattle.site.specs.Verdict.{Passed, Heard, Refused}
 use Rattle.site.specs.Verdict.{report_of, verdict_number}
 use Rattle.site.specs.Step.{Stepped, stepped, step_invalid, decide, step_at, hear_of}
 
@@ -25,6 +20,11 @@ three : {A : Type 0} (P : Bool → Bool → A → Type 0) {x y z : A} → ((g : 
 three P x y z true g = x g
 three P x y z false false = y
 three P x y z false true = z
+
+-- what the tests answered, of a row of n bytes
+pub tested : (p : List ℕ) (code node : ℕ) (row : List ℕ) {m n : ℕ} → m ≡ invalid p (eqb (length row) n) true code node → n ≡ size p → m ≡ step_invalid p code node row
+unfolding step_invalid
+tested p code node row h e = h ∙ rw e
 
 -- MESSAGES
 module _ (p : List ℕ) (code node : ℕ) (row : List ℕ) where

@@ -5,8 +5,8 @@ use Rattle.event.specs.Event.{Event, down, at}
 use Rattle.guard.specs.Guard.{guard, holds}
 use Rattle.guard.specs.Bytes.{encode}
 use Rattle.site.specs.Step.{Stepped, stepped, step_of}
-use Rattle.site.specs.declared.Refusal.{Refusal}
-use Rattle.site.specs.declared.Verdict.TheVariants.{Refused}
+use Rattle.site.specs.Verdict.{Refusal}
+use Rattle.site.specs.Verdict.{Refused}
 
 -- H0: a step that was refused and left the row
 pub record Declined (row : List ℕ) (s : Stepped) : Type 0 where

@@ -7,9 +7,9 @@ use Rattle.event.specs.Valid.{invalid}
 use Rattle.guard.specs.Guard.{guard, holds, barred}
 use Rattle.guard.specs.Rule.{rule_byte}
 use Rattle.row.specs.Row.{heard, hear}
-use Rattle.site.specs.declared.Refusal.TheVariants.{Invalid, Barred, Unmet}
-use Rattle.site.specs.declared.Verdict.{Verdict}
-use Rattle.site.specs.declared.Verdict.TheVariants.{Passed, Heard, Refused}
+use Rattle.site.specs.Verdict.{Invalid, Barred, Unmet}
+use Rattle.site.specs.Verdict.{Verdict}
+use Rattle.site.specs.Verdict.{Passed, Heard, Refused}
 
 -- H16, H17: the row that a call leaves, and its verdict
 pub record Stepped : Type 0 where

@@ -1,13 +1,15 @@
 // What one site does: it steps an event on its own row, and hears of events that happened elsewhere. What a step and a message mean is
-// specs/Step.antt: one equation for the answer and every lent byte. A call of `step` or `hear` that is not valid is refused with the number of the
-// test that failed; `decide` is the part of a step behind the tests, for callers that have made them.
+// specs/Step.antt: one equation for the answer and every lent byte. A call of `step` or `hear` that is not valid is refused with the test that failed;
+// `decide` is the part of a step behind the tests, for callers that have made them.
 #![tactic(auto)]
 
 ghost use Rattle.std.specs.Prelude.{◌≡◌, ◌<◌};
 ghost use Rattle.plan.specs.Plan.{size};
 ghost use Rattle.plan.specs.Check.{Accepted};
-ghost use Rattle.site.specs.Verdict.{reported, report_of};
+ghost use Rattle.site.specs.Verdict.{verdict_of, reported, report_of};
 ghost use Rattle.site.specs.Step.{stepped, decide, step_of, hear_of};
+
+use fault::Fault;
 
 // An event that passed, with its site and the rule behind its guard.
 #[derive(Clone, Copy)]
@@ -18,11 +20,11 @@ pub struct PassedEvent {
     pub rule: u8,
 }
 
-// Why a call is refused: it is invalid, with the number of the test that failed (1 to 9); the event is barred or its guard unmet, with the event's
-// site; or a message tells of what did not happen, which the simulation alone can know.
+// Why a call is refused: it is invalid, with the test that failed; the event is barred or its guard unmet, with the event's site; or a message tells of what did not happen,
+// which the simulation alone can know.
 #[derive(Clone, Copy)]
 pub enum Refusal {
-    Invalid(u8),
+    Invalid(Fault),
     Barred(u8),
     Unmet(u8),
     Untrue,
@@ -50,28 +52,29 @@ fn reported(number: u8, site: u8, rule: u8) -> Report
     Report { number, site, rule }
 }
 
-pub fn report_of(v: Verdict) -> Report
-    ensures { result ≡ report_of v }
-{
-    match v {
-        Verdict::Passed(e) => reported(0, e.site, e.rule),
-        Verdict::Heard => reported(0, 0, 0),
-        Verdict::Refused(why) => match why {
-            Refusal::Invalid(n) => reported(n, 0, 0),
-            Refusal::Barred(site) => reported(10, site, 0),
-            Refusal::Unmet(site) => reported(11, site, 0),
-            Refusal::Untrue => reported(12, 0, 0),
-        },
+impl From<Verdict> for Report {
+    ghost from_gives = { λ v r. r ≡ report_of (verdict_of v) };
+
+    #[tactic(auto, unfolding(crate::specs::Verdict::report_of))]
+    fn from(v: Verdict) -> Report {
+        match v {
+            Verdict::Passed(e) => reported(0, e.site, e.rule),
+            Verdict::Heard => reported(0, 0, 0),
+            Verdict::Refused(Refusal::Invalid(fault)) => reported(u8::from(fault), 0, 0),
+            Verdict::Refused(Refusal::Barred(site)) => reported(10, site, 0),
+            Verdict::Refused(Refusal::Unmet(site)) => reported(11, site, 0),
+            Verdict::Refused(Refusal::Untrue) => reported(12, 0, 0),
+        }
     }
 }
 
 // A message to a site: the event is set in its row.
 pub fn hear(plan: &[u8], code: u32, node: u32, row: &mut [u8]) -> Verdict
-    ensures { hear_of plan.now code node row.old ≡ stepped row.new result }
+    ensures { hear_of plan.now code node row.old ≡ stepped row.new (verdict_of result) }
 {
-    let n = event::validate(plan, row.len() == plan::node_count(plan), true, code, node);
-    if n != 0 {
-        return Verdict::Refused(Refusal::Invalid(n));
+    let n = plan::node_count(plan);
+    if let Err(fault) = event::validate(plan, row.len() == n, true, code, node) {
+        return Verdict::Refused(Refusal::Invalid(fault));
     }
     row::set_heard(row, code as u8, node as u8);
     Verdict::Heard
@@ -80,7 +83,7 @@ pub fn hear(plan: &[u8], code: u32, node: u32, row: &mut [u8]) -> Verdict
 // What a site decides of an event on its row, where the tests have passed: the bars, the guard, and then the event is set. The answer names the site.
 pub fn decide(plan: &[u8], site: u8, code: u8, node: u8, row: &mut [u8]) -> Verdict
     requires { (Accepted plan.now) × (node < size plan.now) }
-    ensures { decide plan.now site code node row.old ≡ stepped row.new result }
+    ensures { decide plan.now site code node row.old ≡ stepped row.new (verdict_of result) }
 {
     if row::is_barred(plan, code, node, row) {
         return Verdict::Refused(Refusal::Barred(site));
@@ -100,12 +103,11 @@ pub fn decide(plan: &[u8], site: u8, code: u8, node: u8, row: &mut [u8]) -> Verd
 
 // A step of the event's site on that site's row: the tests, and then the decision.
 pub fn step(plan: &[u8], code: u32, node: u32, row: &mut [u8]) -> Verdict
-    ensures { step_of plan.now code node row.old ≡ stepped row.new result }
+    ensures { step_of plan.now code node row.old ≡ stepped row.new (verdict_of result) }
 {
     let fits = row.len() == plan::node_count(plan);
-    let n = event::validate(plan, fits, true, code, node);
-    if n != 0 {
-        return Verdict::Refused(Refusal::Invalid(n));
+    if let Err(fault) = event::validate(plan, fits, true, code, node) {
+        return Verdict::Refused(Refusal::Invalid(fault));
     }
     let k = code as u8;
     let v = node as u8;

@@ -15,10 +15,9 @@ pub extern "C" fn vulcedar_guard(plan: &[u8], code: u32, node: u32, buf: &mut [u
     ensures value { result ≡ of_written (write_of plan.now code node buf.old).answer }
     ensures buf_after { buf.new ≡ (write_of plan.now code node buf.old).buffer }
 {
-    let w = writer::write_guard(plan, code, node, buf);
-    match w {
-        writer::Written::Done(g) => results::packed(0, g.rule) + 65536 * (g.length as u32),
-        writer::Written::Refused(n) => results::packed(n, 0),
+    match writer::write_guard(plan, code, node, buf) {
+        Ok(guard) => results::packed(0, guard.rule) + 65536 * u32::from(guard.length),
+        Err(fault) => results::of_fault(fault),
     }
 }
 
@@ -26,8 +25,7 @@ pub extern "C" fn vulcedar_guard(plan: &[u8], code: u32, node: u32, buf: &mut [u
 pub extern "C" fn vulcedar_rule(plan: &[u8], code: u32, node: u32) -> u32
     ensures { result ≡ of_found_rule (rule_answer plan.now code node) }
 {
-    let r = guard::rule(plan, code, node);
-    results::with_value(r.number, 0, r.rule)
+    results::of_value(guard::rule(plan, code, node))
 }
 
 #[unsafe(no_mangle)]
@@ -63,10 +61,9 @@ pub extern "C" fn vulcedar_central(
     ensures marks_after { marks.new ≡ (rule_of plan.now code node marks.old notes.old).marks }
     ensures notes_after { notes.new ≡ (rule_of plan.now code node marks.old notes.old).notes }
 {
-    let r = central::rule(plan, code, node, marks, notes);
-    match r {
-        central::Ruling::Allowed => 65536,
-        central::Ruling::Forbidden => 0,
-        central::Ruling::Refused(n) => results::packed(n, 0),
+    match central::rule(plan, code, node, marks, notes) {
+        Ok(central::Ruling::Allowed) => 65536,
+        Ok(central::Ruling::Forbidden) => 0,
+        Err(why) => results::of_fault(why),
     }
 }

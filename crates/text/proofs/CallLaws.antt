@@ -4,6 +4,7 @@ use mathlib.Core.Bool.{Bool, true, false, not}
 use mathlib.Core.List.{List, flatten, append-nil}
 use Prim.Native.Nat.{ℕ, ◌+◌, ◌-◌, ◌*◌, ◌/◌, ◌≤◌, ◌<◌}
 use native.Mathlib.Omega.{arith}
+use Rattle.std.specs.Prelude.{Option, Some, None}
 use borrow.Author.Tests.{not-true, not-false, eq-eqb, ne_eqb, le-leb, lt-leb}
 use lib.Dec.{eqb}
 use lib.ListN.{length, take, drop, length-drop, drop_of_length-le}
@@ -85,7 +86,7 @@ module _ (t : List ℕ) where
   unfolding counts_of well_formed
   counts-long l = rw (lt-leb (length t) 32768 l)
 
-  pub counts-body : {c : Counts} {h : ℕ} → length t ≤ 32768 → h ≡ body_at t → c ≡ body_counts h (rest t h) → c ≡ counts_of t
+  pub counts-body : {c : Option Counts} {h : ℕ} → length t ≤ 32768 → h ≡ body_at t → c ≡ body_counts h (rest t h) → c ≡ counts_of t
   unfolding counts_of well_formed body_counts body
   counts-body {c} {h} l f g = g ∙ rw (rest-is t h, f, le-leb (length t) 32768 l)
 
@@ -129,23 +130,24 @@ module _ {b : List ℕ} {n m : ℕ} (q : Laid b n m) where
   unfolding step_lines
   laid-steps-done x f = f ∙ rw laid-text
 
--- what the counts c of t tell
-module _ (t : List ℕ) (c : Counts) (e : c ≡ counts_of t) where
-  ok-is : c.ok ≡ well_formed t
+-- what the counts of t tell: none where it is malformed, else c
+module _ (t : List ℕ) where
+  none-is : None ≡ counts_of t → well_formed t ≡ false
   unfolding counts_of
-  ok-is = ap (λ (k : Counts). k.ok) e ∙ cases (decided (well_formed t)) (λ f. rw f) (λ f. rw f)
+  none-is e = cases (decided (well_formed t)) (λ f. let g = rw f at e in cc) (λ f. f)
 
-  pub read-not : (h p s : List ℕ) → not c.ok ≡ true → read_into t h p s ≡ reading c h p s
+  pub read-not : (h p s : List ℕ) → None ≡ counts_of t → read_into t h p s ≡ reading None h p s
   unfolding read_into
-  read-not h p s f = rw (sym ok-is ∙ not-true c.ok f, e)
+  read-not h p s e = rw (none-is e, e)
 
-  module _ (f : not c.ok ≡ false) where
+  module _ {c : Counts} (e : Some c ≡ counts_of t) where
     pub formed-is : well_formed t ≡ true
-    formed-is = sym ok-is ∙ not-false c.ok f
-
-    counts-are : c ≡ counted (body_at t) (length (plan_lines (body t))) (length (step_lines (body t)))
     unfolding counts_of
-    counts-are = rw formed-is at e
+    formed-is = cases (decided (well_formed t)) (λ f. f) (λ f. let g = rw f at e in cc)
+
+    counts-are : c ≡ record { head = body_at t; plan = length (plan_lines (body t)); steps = length (step_lines (body t)) }
+    unfolding counts_of
+    counts-are = let g = rw formed-is at e in cc
 
     pub told-head : c.head ≡ body_at t
     told-head = ap (λ (k : Counts). k.head) counts-are
@@ -174,7 +176,7 @@ module _ (t : List ℕ) (c : Counts) (e : c ≡ counts_of t) where
     told-laid = rw told-body laid
 
     pub read_done : (h p s : List ℕ) {h' p' s' : List ℕ} → h' ≡ in_front (table_bytes t) h → p' ≡ in_front (flatten (plan_lines (rest t c.head))) p →
-        s' ≡ in_front (flatten (step_lines (rest t c.head))) s → read_into t h p s ≡ reading c h' p' s'
+        s' ≡ in_front (flatten (step_lines (rest t c.head))) s → read_into t h p s ≡ reading (Some c) h' p' s'
     unfolding read_into plan_bytes step_bytes
     read_done h p s x y z = rw (formed-is, x, y, z, told-body, e)
 
@@ -223,23 +225,24 @@ pub record ReadTold (t h p s : List ℕ) (c : Counts) (h' p' s' : List ℕ) : Ty
   pub plan : p' ≡ in_front (plan_bytes t) p
   pub steps : s' ≡ in_front (step_bytes t) s
 
-module _ (t h p s : List ℕ) {c : Counts} {h' p' s' : List ℕ} (g : read_into t h p s ≡ reading c h' p' s') where
-  same-counts : c ≡ counts_of t
+module _ (t h p s : List ℕ) {o : Option Counts} {h' p' s' : List ℕ} (g : read_into t h p s ≡ reading o h' p' s') where
+  same-counts : o ≡ counts_of t
   unfolding read_into
   same-counts = sym (ap (λ (r : Reading). r.counts) g) ∙ cases (decided (well_formed t)) (λ f. rw f) (λ f. rw f)
 
-  pub read-malformed : not c.ok ≡ true → well_formed t ≡ false
-  read-malformed e = sym (ok-is t c same-counts) ∙ not-true c.ok e
+  pub read-malformed : o ≡ None → well_formed t ≡ false
+  read-malformed n = none-is t (sym n ∙ same-counts)
 
-  pub read-formed : not c.ok ≡ false → ReadTold t h p s c h' p' s'
+  pub read-formed : {c : Counts} → o ≡ Some c → ReadTold t h p s c h' p' s'
   unfolding read_into
-  read-formed e =
-      let f = formed-is t c same-counts e in
+  read-formed {c} n =
+      let e : Some c ≡ counts_of t = sym n ∙ same-counts in
+      let f = formed-is t e in
       let q = rw f at g in
-      let k = counts-are t c same-counts e in
+      let k = counts-are t e in
       record {
         formed = f;
-        head = told-head t c same-counts e;
+        head = told-head t e;
         plan-long = plan-bytes t ∙ ap (λ (r : Counts). 2 * r.plan) (sym k);
         steps-long = step-bytes t ∙ ap (λ (r : Counts). 3 * r.steps) (sym k);
         few = rw k (steps-few t f);

@@ -2,16 +2,16 @@
 use mathlib.Core.Path.{◌≡◌, refl, sym, ◌∙◌, ap}
 use mathlib.Core.Bool.{true}
 use mathlib.Core.List.{List, [], ◌∷◌, ◌++◌, flatten}
-use Prim.Native.Nat.{ℕ, zero, suc, ◌+◌, ◌-◌, ◌*◌, ◌≤◌, ◌<◌}
+use Prim.Native.Nat.{ℕ, zero, suc, ◌+◌, ◌*◌, ◌≤◌, ◌<◌}
 use native.Mathlib.Nat.{sub-zero}
 use native.Mathlib.Omega.{arith}
 use borrow.Author.Tests.{le-leb, lt-leb}
-use lib.ListN.{length, get_or, drop, set, length-append, length-drop, length-map}
+use lib.ListN.{length, get_or, drop, set, length-append, length-drop}
 use lib.Seq.{drop-drop}
-use Rattle.lists.specs.Seq.{up_from, table}
+use Rattle.lists.specs.Seq.{table}
 use Rattle.lists.specs.Put.{Put}
 use Rattle.lists.proofs.Logic.{cases, decided}
-use Rattle.lists.proofs.Table.{up-length, table-length}
+use Rattle.lists.proofs.Table.{table-length}
 use Rattle.lists.proofs.PutLaws.{Left, table_from, left-all, left-none, left-put, table-turn, table-out, put_front_lem}
 use Rattle.text.specs.Hex.{value_of, is_line, line_byte, line_bytes}
 use Rattle.text.specs.Text.{lines_within, lines}
@@ -34,19 +34,16 @@ pub record LineLeft (k : ℕ) (t b₀ : List ℕ) (at : ℕ) (b : List ℕ) (w i
   pub within : i ≤ k
   pub left : Left (table_from (line_byte t) k i) (line_bytes k t) b₀ at b w
 
-pub line-all : (k : ℕ) (t b : List ℕ) (at : ℕ) → LineLeft k t b at b at 0
+pub line-all : (k : ℕ) (t b : List ℕ) (at : ℕ) {w : ℕ} → w ≡ at → LineLeft k t b at b w 0
 unfolding line_bytes table
-line-all k t b at = record { within = omega arith; left = rw sub-zero (left-all (table (line_byte t) k) b at) }
+line-all k t b at e = record { within = omega arith; left = rw (sub-zero, e) (left-all (table (line_byte t) k) b at) }
 
 module _ {k : ℕ} {t b₀ : List ℕ} {at : ℕ} {b : List ℕ} {w i : ℕ} (h : LineLeft k t b₀ at b w i) where
-  pub line-place : w ≡ at + i
-  line-place = omega (arith, h.within, h.left.place, line-length k t, length-map (up_from i (k - i)) (line_byte t), up-length i (k - i))
+  pub line-turn : {x w' : ℕ} → x ≡ line_byte t i → i < k → w' ≡ w + 1 → LineLeft k t b₀ at (set b w x) w' (i + 1)
+  line-turn e l f = record { within = omega arith; left = rw (e, f) (table-turn (line_byte t) k i l h.left) }
 
-  pub line-turn : {x : ℕ} → x ≡ line_byte t i → i < k → LineLeft k t b₀ at (set b w x) (w + 1) (i + 1)
-  line-turn e l = record { within = omega arith; left = rw e (table-turn (line_byte t) k i l h.left) }
-
-  pub line-done : k ≤ i → Put (line_bytes k t) b₀ at b w
-  line-done l = table-out (line_byte t) k i l h.left
+  pub line-done : {w' : ℕ} → k ≤ i → w' ≡ w → Put (line_bytes k t) b₀ at b w'
+  line-done l f = rw f (table-out (line_byte t) k i l h.left)
 
 none : (ls : List (List ℕ)) → length ls ≡ 0 → ls ≡ []
 none [] e = refl

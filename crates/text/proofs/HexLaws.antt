@@ -25,6 +25,19 @@ pub digit-letter : (b : ℕ) → 97 ≤ b → leb b 102 ≡ is_digit b
 unfolding is_digit
 digit-letter b l = rw (le-leb 48 b (omega arith), lt-leb b 57 (omega arith), le-leb 97 b l)
 
+-- the ranges of a match: 0 to 9, a to f, and what is left
+pub is_low : (b : ℕ) → 48 ≤ b → b ≤ 57 → true ≡ is_digit b
+is_low b l m = sym (le-leb 48 b l) ∙ digit_low b m
+
+pub is_letter : (b : ℕ) → 97 ≤ b → b ≤ 102 → true ≡ is_digit b
+is_letter b l m = sym (le-leb b 102 m) ∙ digit-letter b l
+
+pub no_digit_below : (b : ℕ) → b < 48 → false ≡ is_digit b
+no_digit_below b l = sym (lt-leb 48 b l) ∙ digit_low b (omega arith)
+
+pub no_digit_above : (b : ℕ) → 102 < b → false ≡ is_digit b
+no_digit_above b l = sym (lt-leb b 102 l) ∙ digit-letter b (omega arith)
+
 pub digit_not : (b : ℕ) → is_digit b ≡ false → 0 ≡ value_of b
 unfolding value_of
 digit_not b h = rw h
@@ -52,6 +65,12 @@ module _ (b : ℕ) (h : is_digit b ≡ true) where
   digit_value = cases (decided (leb b 57))
       (λ e. let l = leb-true b 57 e in omega (arith, low-least l, low_value l))
       (λ e. let l = leb-false b 57 e in omega (arith, high-least l, high-most l, high_value l))
+
+pub value_low : (b : ℕ) → 48 ≤ b → b ≤ 57 → b - 48 ≡ value_of b
+value_low b l m = low_value b (sym (is_low b l m)) m
+
+pub value_letter : (b : ℕ) → 97 ≤ b → b ≤ 102 → b - 97 + 10 ≡ value_of b
+value_letter b l m = let e = high_value b (sym (is_letter b l m)) (omega arith) in omega (arith, e)
 
 pub value-small : (b : ℕ) → value_of b < 16
 value-small b = cases (decided (is_digit b)) (λ e. digit_value b e) (λ e. omega (arith, digit_not b e))

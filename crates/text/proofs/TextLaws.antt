@@ -1,13 +1,14 @@
 -- Laws of the lines with which a text begins. Assumes nothing.
 use mathlib.Core.Path.{◌≡◌, refl, sym, ◌∙◌, ap}
-use mathlib.Core.Bool.{Bool, true, false, not, ◌&&◌, and-false}
+use mathlib.Core.Bool.{true, false, ◌&&◌, and-true, and-false, and_assoc}
 use mathlib.Core.List.{List, [], ◌∷◌}
-use Prim.Native.Nat.{ℕ, zero, suc, ◌+◌, ◌-◌, ◌*◌, ◌≤◌}
+use Prim.Native.Nat.{ℕ, zero, suc, ◌+◌, ◌-◌, ◌*◌, ◌≤◌, ◌<◌}
 use native.Mathlib.Omega.{arith}
-use borrow.Author.Tests.{not-true, not-false, eq-eqb, ne_eqb, eqb-true, leb-true, leb-false}
+use borrow.Author.Tests.{eq-eqb, ne_eqb, eqb-true, eqb-false, leb-true, leb-false}
 use lib.Dec.{eqb, leb}
-use lib.ListN.{length, get_or, take, drop, length-drop, drop_of_length-le, get_or-eq_default}
-use lib.Seq.{drop-drop, take_all}
+use lib.ListN.{length, get_or, take, drop, length-drop, get_or-eq_default}
+use lib.Seq.{take_all}
+use Rattle.std.specs.List.{starts_with}
 use Rattle.lists.proofs.Logic.{cases, decided, and_left, and_right}
 use Rattle.text.specs.Hex.{is_line, line_bytes}
 use Rattle.text.specs.Text.{lines_within, lines, is_bar, has_table, table_lines, body_at, body, bar_text, step_text, step_lines, body_formed, well_formed}
@@ -59,47 +60,42 @@ module _ (k : ℕ) (t : List ℕ) where
       ∙ ap (λ ls. line_bytes k t ∷ ls)
       (within-enough (length t) (length (drop (2 * k + 1) t)) k (drop (2 * k + 1) t) (omega (arith, length-drop (2 * k + 1) t)) (omega arith))
 
--- counting them: n lines stand before `at`
-pub record Counted (k : ℕ) (t : List ℕ) (at n : ℕ) : Type 0 where
-  pub within : at ≤ length t
-  pub few : n ≤ at
-  pub rest : length (lines k t) ≡ n + length (lines k (drop at t))
+-- counting them: n lines stand before what is left of the text
+pub record Counted (k : ℕ) (t left : List ℕ) (n : ℕ) : Type 0 where
+  pub few : n + length left ≤ length t
+  pub rest : length (lines k t) ≡ n + length (lines k left)
 
-pub count_none : (k : ℕ) (t : List ℕ) → Counted k t 0 0
-count_none k t = record { within = omega arith; few = omega arith; rest = omega arith }
+pub count_none : (k : ℕ) (t : List ℕ) → Counted k t t 0
+count_none k t = record { few = omega arith; rest = omega arith }
 
-module _ {k : ℕ} {t : List ℕ} {at n : ℕ} (h : Counted k t at n) where
-  pub count-out : length t ≤ at → n ≡ length (lines k t)
-  count-out l = omega (arith, h.rest, ap (λ s. length (lines k s)) (drop_of_length-le t l), ap length (lines_none k [] (no_line k [] (omega arith))))
+module _ {k : ℕ} {t left : List ℕ} {n : ℕ} (h : Counted k t left n) where
+  pub count-stop : is_line k left ≡ false → n ≡ length (lines k t)
+  count-stop f = omega (arith, h.rest, ap length (lines_none k left f))
 
-  -- r is what the code answered of the rest
-  module _ {r : Bool} (e : r ≡ is_line k (rest t at)) where
-    pub count-stop : not r ≡ true → n ≡ length (lines k t)
-    count-stop f = omega (arith, h.rest, ap length (lines_none k (drop at t) (ap (is_line k) (sym (rest-is t at)) ∙ sym e ∙ not-true r f)))
+  pub count-more : is_line k left ≡ true → Counted k t (rest left (2 * k + 1)) (n + 1)
+  count-more f =
+      rw (rest-is left (2 * k + 1))
+      record {
+        few = omega (arith, h.few, line-long k left f, length-drop (2 * k + 1) left);
+        rest = omega (arith, h.rest, ap length (lines-some k left f));
+      }
 
-    pub count-more : not r ≡ false → Counted k t (at + (2 * k + 1)) (n + 1)
-    count-more f =
-        let y : is_line k (drop at t) ≡ true = ap (is_line k) (sym (rest-is t at)) ∙ sym e ∙ not-false r f in
-        record {
-          within = omega (arith, h.within, line-long k (drop at t) y, length-drop at t);
-          few = omega (arith, h.few);
-          rest = omega (arith, h.rest, ap length (lines-some k (drop at t) y), ap (λ s. length (lines k s)) (drop-drop (2 * k + 1) at t));
-        }
+-- a line less is shorter
+pub rest-shorter : (k : ℕ) (t : List ℕ) → is_line k t ≡ true → length (rest t (2 * k + 1)) < length t
+rest-shorter k t f = omega (arith, ap length (rest-is t (2 * k + 1)), length-drop (2 * k + 1) t, line-long k t f)
 
--- a line of two signs c, byte by byte
+turned : (a b : ℕ) → eqb a b ≡ eqb b a
+turned a b = cases (decided (eqb b a)) (λ e. rw (eqb-true b a e, eq-eqb a a refl)) (λ e. rw e (ne_eqb a b (λ f. eqb-false b a e (sym f))))
+
+-- a line of two signs c, as the code tests it
+pub bar-starts : (c : ℕ) (t : List ℕ) → starts_with eqb t (c ∷ c ∷ 10 ∷ []) ≡ is_bar c t
+unfolding is_bar
+bar-starts c [] = sym (and-false (eqb 0 c && eqb 0 c))
+bar-starts c (a ∷ []) = and-false (eqb c a) ∙ sym (and-false (eqb a c && eqb 0 c))
+bar-starts c (a ∷ b ∷ []) = ap (λ x. eqb c a && x) (and-false (eqb c b)) ∙ and-false (eqb c a) ∙ sym (and-false (eqb a c && eqb b c))
+bar-starts c (a ∷ b ∷ d ∷ t) = rw (turned c a, turned c b, turned 10 d, and-true, and_assoc)
+
 module _ (c : ℕ) (t : List ℕ) where
-  pub bar-1 : (b : ℕ) → b ≡ get_or t 0 0 → (b ≡ c → ⊥) → false ≡ is_bar c t
-  unfolding is_bar
-  bar-1 b e f = rw (ne_eqb (get_or t 0 0) c (λ g. f (e ∙ g)))
-
-  pub bar-2 : (b : ℕ) → b ≡ get_or t 1 0 → (b ≡ c → ⊥) → false ≡ is_bar c t
-  unfolding is_bar
-  bar-2 b e f = rw (ne_eqb (get_or t 1 0) c (λ g. f (e ∙ g)), and-false)
-
-  pub bar-3 : (a b d : ℕ) → a ≡ get_or t 0 0 → a ≡ c → b ≡ get_or t 1 0 → b ≡ c → d ≡ get_or t 2 0 → eqb d 10 ≡ is_bar c t
-  unfolding is_bar
-  bar-3 a b d e f g h i = rw (eq-eqb (get_or t 0 0) c (sym e ∙ f), eq-eqb (get_or t 1 0) c (sym g ∙ h), i)
-
   pub bar-long : is_bar c t ≡ true → 3 ≤ length t
   unfolding is_bar
   bar-long h = cases (decided (leb 3 (length t)))

@@ -7,15 +7,14 @@ ghost use mathlib.Core.List.{flatten};
 ghost use Rattle.lists.specs.Put.{Put};
 ghost use Rattle.text.specs.Hex.{is_digit, value_of, digit_of, is_line, line_byte, line_bytes, hex_line};
 ghost use Rattle.text.specs.Text.{lines, is_bar, body_at, plan_lines, step_lines, table_bytes};
-ghost use Rattle.text.specs.Calls.{malformed, body_counts, counts_of, in_front, Laid, read_into, reading, line_into, printing};
+ghost use Rattle.text.specs.Calls.{body_counts, counts_of, in_front, Laid, read_into, reading, line_into, printing};
 
 use plan::byte_at;
 
-// Whether a text is well-formed, its bytes before the plan (the table's lines, five bytes each, and the line `==`; 0 without a table), and its
+// What is counted of a well-formed text: its bytes before the plan (the table's lines, five bytes each, and the line `==`; 0 without a table), and its
 // numbers of plan lines and step lines.
-#[derive(Drop)]
+#[derive(Clone, Copy)]
 pub struct Counts {
-    pub ok: bool,
     pub head: usize,
     pub plan: usize,
     pub steps: usize,
@@ -24,20 +23,17 @@ pub struct Counts {
 fn is_digit(b: u8) -> bool
     ensures { result ≡ is_digit b }
 {
-    if b <= 57 {
-        48 <= b
-    } else {
-        97 <= b && b <= 102
-    }
+    matches!(b, b'0'..=b'9' | b'a'..=b'f')
 }
 
 fn value(b: u8) -> u8
     ensures { result ≡ value_of b }
 {
-    if !is_digit(b) {
-        return 0;
+    match b {
+        b'0'..=b'9' => b - b'0',
+        b'a'..=b'f' => b - b'a' + 10,
+        _ => 0,
     }
-    if b <= 57 { b - 48 } else { b - 87 }
 }
 
 // The digit of n.
@@ -45,7 +41,7 @@ fn digit(n: u8) -> u8
     requires { n < 16 }
     ensures { result ≡ digit_of n }
 {
-    if n < 10 { n + 48 } else { n + 87 }
+    if n < 10 { b'0' + n } else { b'a' + (n - 10) }
 }
 
 // Text begins with a line of k bytes.
@@ -54,14 +50,12 @@ fn is_line(text: &[u8], k: usize) -> bool
     ensures { result ≡ is_line k text.now }
 {
     let n = 2 * k;
-    let mut i = 0;
-    while i < n {
+    for i in 0..n {
         if !is_digit(byte_at(text, i)) {
             return false;
         }
-        i += 1;
     }
-    byte_at(text, n) == 10
+    byte_at(text, n) == b'\n'
 }
 
 // The number of lines of k bytes with which text begins.
@@ -69,13 +63,10 @@ fn count_lines(text: &[u8], k: usize) -> usize
     requires { k ≤ 3 }
     ensures { result ≡ length (lines k text.now) }
 {
-    let mut at = 0;
+    let mut rest = text;
     let mut n = 0;
-    while at < text.len() {
-        if !is_line(&text[at..], k) {
-            return n;
-        }
-        at += 2 * k + 1;
+    while is_line(rest, k) {
+        rest = &rest[2 * k + 1..];
         n += 1;
     }
     n
@@ -85,13 +76,7 @@ fn count_lines(text: &[u8], k: usize) -> usize
 fn is_bar(text: &[u8], sign: u8) -> bool
     ensures { result ≡ is_bar sign text.now }
 {
-    if byte_at(text, 0) != sign {
-        return false;
-    }
-    if byte_at(text, 1) != sign {
-        return false;
-    }
-    byte_at(text, 2) == 10
+    text.starts_with(&[sign, sign, b'\n'])
 }
 
 // The place behind the table and its line `==`; 0 where text has no table.
@@ -100,50 +85,38 @@ fn body_at(text: &[u8]) -> usize
 {
     let n = count_lines(text, 2);
     let at = 5 * n;
-    if !is_bar(&text[at..], 61) {
+    if !is_bar(&text[at..], b'=') {
         return 0;
     }
     at + 3
 }
 
-fn malformed() -> Counts
-    ensures { result ≡ malformed }
-{
-    Counts {
-        ok: false,
-        head: 0,
-        plan: 0,
-        steps: 0,
-    }
-}
-
 // The counts of a text behind a table of so many bytes.
-fn count_body(text: &[u8], head: usize) -> Counts
+fn count_body(text: &[u8], head: usize) -> Option<Counts>
     ensures { result ≡ body_counts head text.now }
 {
     let n = count_lines(text, 2);
     let at = 5 * n;
-    if !is_bar(&text[at..], 45) {
-        return malformed();
+    if !is_bar(&text[at..], b'-') {
+        return None;
     }
     let from = at + 3;
     let m = count_lines(&text[from..], 3);
     if text.len() - from != 7 * m {
-        return malformed();
+        return None;
     }
-    Counts {
-        ok: true,
+    Some(Counts {
         head,
         plan: n,
         steps: m,
-    }
+    })
 }
 
-fn count(text: &[u8]) -> Counts
+fn count(text: &[u8]) -> Option<Counts>
     ensures { result ≡ counts_of text.now }
 {
     if text.len() > 32768 {
-        return malformed();
+        return None;
     }
     let head = body_at(text);
     count_body(&text[head..], head)
@@ -163,14 +136,10 @@ fn decode_line(text: &[u8], k: usize, out: &mut [u8], at: usize) -> usize
     requires k_in_bounds { at + k ≤ length out.old }
     ensures { Put (line_bytes k text.now) out.old at out.new result }
 {
-    let mut w = at;
-    let mut i = 0;
-    while i < k {
-        out[w] = line_byte(text, i);
-        w += 1;
-        i += 1;
+    for i in 0..k {
+        out[at + i] = line_byte(text, i);
     }
-    w
+    at + k
 }
 
 // Puts the bytes of the n lines of k bytes with which text begins at the front of `out`, if there is room for them.
@@ -184,11 +153,9 @@ fn decode(text: &[u8], k: usize, n: usize, out: &mut [u8])
     }
     let mut at = 0;
     let mut w = 0;
-    let mut i = 0;
-    while i < n {
+    for _ in 0..n {
         w = decode_line(&text[at..], k, out, w);
         at += 2 * k + 1;
-        i += 1;
     }
 }
 
@@ -214,21 +181,20 @@ fn read_body(text: &[u8], n: usize, m: usize, plan: &mut [u8], steps: &mut [u8])
     decode(&text[from..], 3, m, steps);
 }
 
-// Reads a text: its counts, and the bytes of the table, of the plan and of the steps at the front of three buffers. A malformed text leaves all
+// Reads a text: its counts, and the bytes of the table, of the plan and of the steps at the front of three buffers. A malformed text has no counts and leaves all
 // buffers, and so does a buffer that is too short for its bytes, of which there are two a table or plan line and three a step line.
-pub fn read(text: &[u8], table: &mut [u8], plan: &mut [u8], steps: &mut [u8]) -> Counts
+pub fn read(text: &[u8], table: &mut [u8], plan: &mut [u8], steps: &mut [u8]) -> Option<Counts>
     ensures { read_into text.now table.old plan.old steps.old ≡ reading result table.new plan.new steps.new }
 {
-    let counts = count(text);
-    if !counts.ok {
-        return counts;
-    }
-    let head = counts.head;
-    let n = counts.plan;
-    let m = counts.steps;
+    let counts = count(text)?;
+    let Counts {
+        head,
+        plan: n,
+        steps: m,
+    } = counts;
     read_table(text, head, table);
     read_body(&text[head..], n, m, plan, steps);
-    counts
+    Some(counts)
 }
 
 // Writes the line of these bytes from `at` on.
@@ -237,15 +203,12 @@ fn write_line(bytes: &[u8], out: &mut [u8], at: usize) -> usize
     ensures { Put (hex_line bytes.now) out.old at out.new result }
 {
     let mut w = at;
-    let mut i = 0;
-    while i < bytes.len() {
-        let b = bytes[i];
+    for &b in bytes {
         out[w] = digit(b / 16);
         out[w + 1] = digit(b % 16);
         w += 2;
-        i += 1;
     }
-    out[w] = 10;
+    out[w] = b'\n';
     w + 1
 }
 
@@ -253,15 +216,7 @@ fn write_line(bytes: &[u8], out: &mut [u8], at: usize) -> usize
 pub fn put_line(bytes: &[u8], out: &mut [u8], at: usize) -> usize
     ensures { line_into bytes.now out.old at ≡ printing result out.new }
 {
-    if out.len() < at {
-        return at;
-    }
-    let room = out.len() - at;
-    let n = bytes.len();
-    if room <= n {
-        return at;
-    }
-    if room - n <= n {
+    if out.len() < at || out.len() - at < 2 * bytes.len() + 1 {
         return at;
     }
     write_line(bytes, out, at)

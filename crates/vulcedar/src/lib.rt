@@ -26,7 +26,6 @@ ghost use Rattle.script.specs.Script.{run_text_into};
 ghost use Rattle.workload.specs.Call.{load_of};
 ghost use Rattle.keeping.specs.Keeping.{keep_own, undo_own};
 ghost use Rattle.points.specs.Points.{name_of};
-ghost use Rattle.rewind.specs.Arrays.{entries_of};
 ghost use Rattle.rewind.specs.Return.{point_undo_own, point_back_own};
 ghost use Rattle.desks.specs.Desk.{desk_check};
 ghost use Rattle.desks.specs.Calls.{desk_step_of, desk_simulate_of, desk_keep_of, desk_undo_of, desk_point_undo_of, desk_point_back_of, desk_record_into, desk_record_by_into};
@@ -293,12 +292,12 @@ pub extern "C" fn vulcedar_point_name(
 pub extern "C" fn vulcedar_point_undo(
     plan: &[u8],
     state: &mut [u8],
-    entries: &[[u8; 4]],
+    entries: &[Entry],
     count: &mut usize,
     names: &mut [u8],
     places: &mut [u64],
 ) -> u32
-    ensures { AsReturned (point_undo_own plan.now state.old (entries_of entries.now) count.old names.old places.old) result state.new count.new names.new places.new }
+    ensures { AsReturned (point_undo_own plan.now state.old entries.now count.old names.old places.old) result state.new count.new names.new places.new }
 {
     simulation_exports::vulcedar_point_undo(plan, state, entries, count, names, places)
 }
@@ -308,12 +307,12 @@ pub extern "C" fn vulcedar_point_back(
     plan: &[u8],
     name: &[u8],
     state: &mut [u8],
-    entries: &[[u8; 4]],
+    entries: &[Entry],
     count: &mut usize,
     names: &mut [u8],
     places: &mut [u64],
 ) -> u32
-    ensures { AsReturned (point_back_own plan.now name.now state.old (entries_of entries.now) count.old names.old places.old) result state.new count.new names.new places.new }
+    ensures { AsReturned (point_back_own plan.now name.now state.old entries.now count.old names.old places.old) result state.new count.new names.new places.new }
 {
     simulation_exports::vulcedar_point_back(plan, name, state, entries, count, names, places)
 }
@@ -394,12 +393,12 @@ pub extern "C" fn vulcedar_desk_undo(
 pub extern "C" fn vulcedar_desk_point_undo(
     plan: &[u8],
     state: &mut [u8],
-    entries: &[[u8; 4]],
+    entries: &[Entry],
     count: &mut usize,
     names: &mut [u8],
     places: &mut [u64],
 ) -> u32
-    ensures { AsReturned (desk_point_undo_of plan.now state.old (entries_of entries.now) count.old names.old places.old) result state.new count.new names.new places.new }
+    ensures { AsReturned (desk_point_undo_of plan.now state.old entries.now count.old names.old places.old) result state.new count.new names.new places.new }
 {
     desk_exports::vulcedar_desk_point_undo(plan, state, entries, count, names, places)
 }
@@ -409,12 +408,12 @@ pub extern "C" fn vulcedar_desk_point_back(
     plan: &[u8],
     name: &[u8],
     state: &mut [u8],
-    entries: &[[u8; 4]],
+    entries: &[Entry],
     count: &mut usize,
     names: &mut [u8],
     places: &mut [u64],
 ) -> u32
-    ensures { AsReturned (desk_point_back_of plan.now name.now state.old (entries_of entries.now) count.old names.old places.old) result state.new count.new names.new places.new }
+    ensures { AsReturned (desk_point_back_of plan.now name.now state.old entries.now count.old names.old places.old) result state.new count.new names.new places.new }
 {
     desk_exports::vulcedar_desk_point_back(plan, name, state, entries, count, names, places)
 }

@@ -10,7 +10,7 @@ use native.Mathlib.Omega.{arith}
 use Rattle.lists.specs.Member.{In, here, there, Rising, next}
 use Rattle.lists.proofs.Logic.{cases, clash, and_left, and_right, and-join, either}
 use Rattle.lists.proofs.Members.{rising-above, in-none}
-use Rattle.plan.specs.Plan.{Kind}
+use Rattle.plan.specs.declared.kinds.Kind.{Kind}
 use Rattle.pass.specs.Pass.{Outcome, works, breaks, fault, Tally, goes, note, skip, child_mark, end_of, number_of}
 use Rattle.pass_nodes.specs.Nodes.{counted, tallied, next_mark, mark_among}
 use Rattle.pass_nodes.proofs.EndLaws.{Clean, first-sound, count-on, count-off, next-on, next-off}

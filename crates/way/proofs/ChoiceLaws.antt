@@ -10,7 +10,9 @@ use borrow.Author.Tests.{eqb-true, eqb-false, eq-eqb, ne_eqb, not-true}
 use native.Mathlib.Omega.{arith}
 use Rattle.lists.specs.Seq.{all}
 use Rattle.lists.proofs.Logic.{cases, decided, clash, and_left, and_right, and-join, either, both}
-use Rattle.plan.specs.Plan.{Kind, task, serial, and, or, xor, contingency, conditional, waiting, is_kind, kind_number}
+use Rattle.plan.specs.Plan.{is_kind, kind_number}
+use Rattle.plan.specs.declared.kinds.Kind.{Kind}
+use Rattle.plan.specs.declared.kinds.Kind.TheVariants.{Task as task, Serial as serial, And as and, Or as or, Xor as xor, Contingency as contingency, Conditional as conditional, Waiting as waiting}
 use Rattle.pass.specs.Pass.{Outcome, works, breaks, Tally, goes, goes_by, note, skip, nothing, one_or_two, bad_answer, bad_pick, closes, good_mark, child_mark, ending, end_of}
 use Rattle.way.specs.Can.{stops, anywhere, gets, gets_one, works_by, breaks_by}
 use Rattle.way.proofs.Choices.{same_end, may_end}

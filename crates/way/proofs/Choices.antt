@@ -2,7 +2,7 @@
 use mathlib.Core.Bool.{Bool, true, false, cond, ◌&&◌, ◌||◌}
 use mathlib.Core.List.{List, [], ◌∷◌}
 use Prim.Native.Nat.{ℕ}
-use Rattle.plan.specs.Plan.{Kind}
+use Rattle.plan.specs.declared.kinds.Kind.{Kind}
 use Rattle.pass.specs.Pass.{Outcome, works, breaks, fault, Tally, goes, note, skip, child_mark, end_of}
 
 -- equal, and no fault

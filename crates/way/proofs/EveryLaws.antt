@@ -12,7 +12,9 @@ use Rattle.lists.specs.Seq.{all}
 use Rattle.lists.specs.Member.{In, here, there, Rising, next}
 use Rattle.lists.proofs.Logic.{cases, decided, clash, and-join}
 use Rattle.lists.proofs.Members.{all-by, rising-above, in-none}
-use Rattle.plan.specs.Plan.{Kind, task, serial, and, or, xor, contingency, conditional, waiting, kind, children, size, is_kind, kind_number}
+use Rattle.plan.specs.Plan.{kind, children, size, is_kind, kind_number}
+use Rattle.plan.specs.declared.kinds.Kind.{Kind}
+use Rattle.plan.specs.declared.kinds.Kind.TheVariants.{Task as task, Serial as serial, And as and, Or as or, Xor as xor, Contingency as contingency, Conditional as conditional, Waiting as waiting}
 use Rattle.plan.specs.Check.{Accepted}
 use Rattle.plan.specs.Under.{Under, self}
 use Rattle.plan.proofs.PlanLaws.{rising-children}

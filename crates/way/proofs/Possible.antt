@@ -14,7 +14,8 @@ use Rattle.lists.specs.Member.{In}
 use Rattle.lists.proofs.Logic.{cases, decided, clash, and_left, and_right, and-join}
 use Rattle.lists.proofs.Members.{all-at, all-by}
 use Rattle.lists.proofs.Table.{table_at, table-length}
-use Rattle.plan.specs.Plan.{Kind, kind, children, parent, size}
+use Rattle.plan.specs.Plan.{kind, children, parent, size}
+use Rattle.plan.specs.declared.kinds.Kind.{Kind}
 use Rattle.plan.specs.Check.{Accepted}
 use Rattle.plan.proofs.PlanLaws.{child-of, rising-children}
 use Rattle.plan.proofs.AcceptedLaws.{child-between, parent-child}

@@ -2,7 +2,9 @@
 -- says that x may be v's answer, `allows v m` that m may be v's mark. That it is right is proved (proofs/Possible.antt). Definitions only.
 use Rattle.std.specs.Prelude.{Bool, true, false, cond, ◌&&◌, ◌||◌, List, [], ◌∷◌, ℕ, zero, suc, eqb, ltb, get_or}
 use Rattle.lists.specs.Seq.{all}
-use Rattle.plan.specs.Plan.{Kind, task, serial, and, or, xor, contingency, conditional, waiting, kind, children, size}
+use Rattle.plan.specs.Plan.{kind, children, size}
+use Rattle.plan.specs.declared.kinds.Kind.{Kind}
+use Rattle.plan.specs.declared.kinds.Kind.TheVariants.{Task as task, Serial as serial, And as and, Or as or, Xor as xor, Contingency as contingency, Conditional as conditional, Waiting as waiting}
 
 -- F2: f up to some child, which is as g says and has an allowed place, and h behind it; n children stand before
 unfoldable pub stops : (ℕ → Bool) → (ℕ → Bool) → (ℕ → Bool) → (ℕ → Bool) → ℕ → List ℕ → Bool

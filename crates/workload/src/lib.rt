@@ -4,9 +4,12 @@
 
 ghost use Rattle.std.specs.Prelude.{◌≡◌, ◌+◌, ◌*◌, ◌%◌, ◌^◌, ◌<◌, ◌≤◌, length, if◌then◌else◌, nat_eq};
 ghost use Rattle.lists.specs.Put.{Put};
+ghost use Rattle.fault.specs.Number.{number_of};
 ghost use Rattle.plan.specs.Replaced.{replaced};
 ghost use Rattle.workload.specs.Load.{moved, after, draw, step_at};
 ghost use Rattle.workload.specs.Call.{load_of};
+
+use fault::Fault;
 
 // The low 32 bits of a product.
 fn mul_low(a: u32, b: u32) -> u32
@@ -56,21 +59,16 @@ fn put_step(n: u32, s: u32, out: &mut [u8], at: usize) -> u32
     fourth
 }
 
-// The load of a seed: 1 to 6 by the check, 7 where `out` is not three bytes a step, and 0 where it is written.
-pub fn workload(plan: &[u8], seed: u32, count: u32, out: &mut [u8]) -> u8
-    ensures { load_of plan.now seed count out.old ≡ replaced result out.new }
+// The load of a seed, into `out`, which has to be three bytes a step.
+pub fn workload(plan: &[u8], seed: u32, count: u32, out: &mut [u8]) -> Result<(), Fault>
+    ensures { load_of plan.now seed count out.old ≡ replaced (number_of result) out.new }
 {
     let steps = count as usize;
-    let bad = checker::fit(plan, out.len() == 3 * steps);
-    if bad != 0 {
-        return bad;
-    }
+    checker::fit(plan, out.len() == 3 * steps)?;
     let n = plan::node_count(plan) as u32;
     let mut s = seed;
-    let mut i = 0;
-    while i < steps {
+    for i in 0..steps {
         s = put_step(n, s, out, 3 * i);
-        i += 1;
     }
-    0
+    Ok(())
 }

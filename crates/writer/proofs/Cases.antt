@@ -1,9 +1,6 @@
 -- Events of small plans and what the writer makes of them, beside P1 to P8 (crates/runs/proofs/Cases.antt): lines of the table that these leave out,
 -- the limits, and every refusal of the writer itself. Assumes nothing.
-use mathlib.Core.Path.{◌≡◌, refl}
-use mathlib.Core.List.{List, [], ◌∷◌, ◌++◌, map}
-use Prim.Native.Nat.{ℕ}
-use lib.ListN.{length, replicate}
+use Rattle.std.proofs.Common.{◌≡◌, refl, List, [], ◌∷◌, ◌++◌, map, ℕ, length, replicate}
 use Rattle.lists.specs.Seq.{keep, up_from, all_below, last_or, head_or}
 use Rattle.plan.specs.Plan.{kind_number, is_kind, kind_of, size, kind_byte, kind, parent, children_below, children, child_count, others, above, in_xor, depth_within, depth}
 use Rattle.plan.specs.Check.{length_ok, kind_ok, parent_ok, under_block, fits, count_ok, depth_ok, at_all, check_number, fit_number}
@@ -14,8 +11,8 @@ use Rattle.guard.specs.Rule.{rule_byte}
 use Rattle.guard.specs.Bytes.{enc_events, enc_clauses, encode}
 use Rattle.guard.proofs.Cases.{tasks, xor_of}
 use Rattle.writer.specs.Written.{filled, written, fitted, write_of}
-use Rattle.writer.specs.declared.Written.{Written}
-use Rattle.writer.specs.declared.Written.TheVariants.{Done, Refused}
+use Rattle.writer.specs.Written.{Written}
+use Rattle.writer.specs.Written.{Done, Refused}
 
 pub record Case : Type 0 where
   pub plan : List ℕ

@@ -1,13 +1,6 @@
 -- What the writer's answer and its buffer tell. Assumes nothing.
-use mathlib.Core.Path.{◌≡◌, refl, sym, ap, ◌∙◌}
-use mathlib.Core.Bool.{true}
-use mathlib.Core.List.{List, ◌++◌}
-use Prim.Native.Nat.{ℕ, ◌≤◌, ◌<◌}
-use native.Mathlib.Nat.{zero-add}
-use native.Mathlib.Omega.{arith}
-use borrow.Author.Tests.{eq-eqb, ne_eqb, eqb-true, eqb-false, leb-true, leb-false, le-leb, lt-leb}
-use lib.Dec.{eqb, leb}
-use lib.ListN.{length, take, drop}
+use Rattle.std.proofs.Common.{◌≡◌, refl, sym, ap, ◌∙◌, true, List, ◌++◌, ℕ, ◌≤◌, ◌<◌, zero-add, arith, eq-eqb, ne_eqb, eqb-true, leb-true, leb-false, le-leb, eqb, leb, length, take, drop}
+use borrow.Author.Tests.{eqb-false, lt-leb}
 use lib.Seq.{take-length}
 use Rattle.lists.proofs.Logic.{cases, decided}
 use Rattle.event.specs.Event.{event_of}
@@ -19,7 +12,7 @@ use Rattle.guard.specs.Bytes.{encode}
 use Rattle.lists.specs.Put.{Put}
 use Rattle.writer.specs.Written.{filled, written, fitted, write_of}
 use Rattle.writer.specs.declared.WrittenGuard.{WrittenGuard}
-use Rattle.writer.specs.declared.Written.TheVariants.{Done, Refused}
+use Rattle.writer.specs.Written.{Done, Refused}
 use Rattle.lists.proofs.PutLaws.{put_front_lem}
 use Rattle.guard.proofs.PutLaws.{front}
 
@@ -32,9 +25,9 @@ unfolding fitted
 fitted-done x r b l = rw (le-leb (length x) (length b) l)
 
 module _ (p : List ℕ) (code node : ℕ) (b : List ℕ) where
-  pub write-invalid : (invalid p true true code node ≡ 0 → ⊥) → write_of p code node b ≡ filled b (Refused (invalid p true true code node))
+  pub write-invalid : {n : ℕ} → n ≡ invalid p true true code node → (n ≡ 0 → ⊥) → write_of p code node b ≡ filled b (Refused n)
   unfolding write_of
-  write-invalid h = rw (ne_eqb (invalid p true true code node) 0 h)
+  write-invalid {n} e h = rw (← e, ne_eqb n 0 h)
 
   pub write-valid : {r : ℕ} → r ≡ rule_byte p (event_of code node) → invalid p true true code node ≡ 0 → write_of p code node b ≡ fitted (encode (guard p (event_of code node))) r b
   unfolding write_of
@@ -77,4 +70,4 @@ write_done p code node b b' g h = cases (decided (eqb (invalid p true true code 
     (λ f. let r = same-done _ b' _ g (sym (fitted-done _ _ b (leb-true _ _ f)) ∙ q) in
     record { valid = valid p true true code node z; buffer = r.0; long = ap (λ w. w.length) r.1; rule = ap (λ w. w.rule) r.1 })
     (λ f. absurd (done_refused b' b _ (sym q ∙ fitted-not _ _ b (leb-false _ _ f)))))
-    (λ e. absurd (done_refused b' b _ (sym h ∙ write-invalid p code node b (eqb-false _ _ e))))
+    (λ e. absurd (done_refused b' b _ (sym h ∙ write-invalid p code node b refl (eqb-false _ _ e))))

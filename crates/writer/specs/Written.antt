@@ -1,13 +1,23 @@
 -- The guard writer (rules C8, C10, H0, H7 and H18) as one value: its answer and the buffer. Definitions only.
-use Rattle.std.specs.Prelude.{true, cond, not, List, ◌++◌, ℕ, eqb, leb, length, drop}
+use Rattle.std.specs.Prelude.{true, cond, not, List, ◌++◌, ℕ, eqb, leb, length, drop, Result, Ok, Err}
+use Rattle.fault.specs.declared.Fault.{Fault}
+use Rattle.fault.specs.Number.{fault_number}
 use Rattle.event.specs.Event.{event_of}
 use Rattle.event.specs.Valid.{invalid}
 use Rattle.guard.specs.Guard.{guard}
 use Rattle.guard.specs.Rule.{rule_byte}
 use Rattle.guard.specs.Bytes.{encode}
 use Rattle.writer.specs.declared.WrittenGuard.{WrittenGuard}
-use Rattle.writer.specs.declared.Written.{Written}
-use Rattle.writer.specs.declared.Written.TheVariants.{Done, Refused}
+
+-- H0, H18: the writer's answer: the guard that it wrote, or the number of the test that failed
+pub data Written : Type 0 where
+  Done : WrittenGuard → Written
+  Refused : ℕ → Written
+
+-- H0: the same of what a call answers, whose fault has its number
+abbrev pub written_of : Result WrittenGuard Fault → Written
+written_of (Ok g) = Done g
+written_of (Err f) = Refused (fault_number f)
 
 -- H0, H18: the number of every answer: 0 where a guard was written, else that of the test that failed
 unfoldable pub written_number : Written → ℕ

@@ -16,15 +16,11 @@ fn gather(plan: &[u8], u: u8, skip: u8, cs: &mut [u8]) -> usize
 {
     let n = plan::node_count(plan);
     let mut w = 0;
-    let mut c = 1;
-    while c < n {
-        if plan[2 * c + 1] == u {
-            if c as u8 != skip {
-                cs[w] = c as u8;
-                w += 1;
-            }
+    for c in 1..n {
+        if plan[2 * c + 1] == u && c as u8 != skip {
+            cs[w] = c as u8;
+            w += 1;
         }
-        c += 1;
     }
     w
 }

@@ -14,13 +14,11 @@ fn before(cs: &[u8], v: u8) -> u8
     ensures { result ≡ before_in v cs.now v }
 {
     let mut d = v;
-    let mut i = 0;
-    while i < cs.len() {
-        if cs[i] == v {
+    for &c in cs {
+        if c == v {
             return d;
         }
-        d = cs[i];
-        i += 1;
+        d = c;
     }
     d
 }
@@ -32,14 +30,14 @@ pub(crate) fn fill(plan: &[u8], code: u8, v: u8, buf: &mut [u8]) -> usize
 {
     let mut cs = [0u8; 32];
     let n = family::named_nodes(plan, code, v, &mut cs);
-    let b = plan::wide(before(&cs[..n], v));
-    let u = plan::wide(plan::parent(plan, v));
+    let b = usize::from(before(&cs[..n], v));
+    let u = usize::from(plan::parent(plan, v));
     let s = table::shape_of(
         code,
         plan::kind(plan, v),
         plan::above(plan, v),
         u,
-        plan::wide(v),
+        usize::from(v),
         b,
     );
     put::put_shape(s, &cs[..n], buf)

@@ -42,10 +42,8 @@ fn put_first(code: u8, node: u8, n: u8, more: u8, cs: &[u8], buf: &mut [u8]) -> 
     }
     buf[0] = cs.len() as u8 + more;
     let mut w = 1;
-    let mut i = 0;
-    while i < cs.len() {
-        w = put_clause(code, n, cs[i], buf, w);
-        i += 1;
+    for &c in cs {
+        w = put_clause(code, n, c, buf, w);
     }
     w
 }
@@ -60,12 +58,10 @@ fn put_any(code: u8, cs: &[u8], buf: &mut [u8], at: usize) -> usize
     }
     buf[at] = cs.len() as u8;
     let mut w = at + 1;
-    let mut i = 0;
-    while i < cs.len() {
+    for &c in cs {
         buf[w] = code;
-        buf[w + 1] = cs[i];
+        buf[w + 1] = c;
         w += 2;
-        i += 1;
     }
     w
 }

@@ -1,12 +1,9 @@
--- Every line noted begins in the text; the next begins later. Assumes nothing.
-use mathlib.Core.Path.{◌≡◌}
-use Prim.Native.Nat.{◌-◌, ◌≤◌}
-use lib.ListN.{length}
-use borrow.Author.Rules.{rules}
+-- What is left of the text is no longer than the buffer, and shorter each time. Assumes nothing.
+use Rattle.std.proofs.Common.{length, ◌≤◌}
 use Rattle.cases.proofs.lines.Given as goal
 
-abbrev pub invariant-loop-at : goal.invariant-loop-at
-invariant-loop-at l = (l.end ≡ length l.text) × (l.p ≤ l.end) × (l.a ≤ l.end) × (l.b ≤ l.end) × (l.c ≤ l.end)
+abbrev pub invariant-loop-noted : goal.invariant-loop-noted
+invariant-loop-noted g l = length l.rest ≤ 65536
 
-abbrev pub decreases-loop-at : goal.decreases-loop-at
-decreases-loop-at l = length l.text - l.at
+abbrev pub decreases-loop-noted : goal.decreases-loop-noted
+decreases-loop-noted g l = length l.rest

@@ -1,6 +1,5 @@
 -- What is left of the children says what all of them say. Assumes nothing.
 use mathlib.Core.Path.{◌≡◌}
-use Prim.Native.Nat.{◌-◌}
 use Rattle.lists.specs.Seq.{all}
 use Rattle.plan.specs.Plan.{children_below}
 use Rattle.central.specs.Scan.{mark_in}
@@ -9,6 +8,3 @@ use Rattle.central.proofs.all_marked.Given as goal
 
 abbrev pub invariant-loop-c : goal.invariant-loop-c
 invariant-loop-c l = all (mark_in l.set l.marks) (children_below l.plan l.below l.u) ≡ all (mark_in l.set l.marks) (kids l.plan l.u l.below l.c)
-
-abbrev pub decreases-loop-c : goal.decreases-loop-c
-decreases-loop-c l = l.below - l.c

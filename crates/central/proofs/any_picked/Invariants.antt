@@ -1,6 +1,5 @@
 -- What is left of the children says what all of them say. Assumes nothing.
 use mathlib.Core.Path.{◌≡◌}
-use Prim.Native.Nat.{◌-◌}
 use Rattle.lists.specs.Seq.{any}
 use Rattle.plan.specs.Plan.{children}
 use Rattle.central.specs.Scan.{picked_at, besides}
@@ -9,6 +8,3 @@ use Rattle.central.proofs.any_picked.Given as goal
 
 abbrev pub invariant-loop-c : goal.invariant-loop-c
 invariant-loop-c l = any (picked_at l.notes) (besides l.skip (children l.plan l.u)) ≡ any (picked_at l.notes) (besides l.skip (kids l.plan l.u l.n l.c))
-
-abbrev pub decreases-loop-c : goal.decreases-loop-c
-decreases-loop-c l = l.n - l.c

@@ -1,6 +1,5 @@
 -- What is left of the children has at the place that is left what all have at k. Assumes nothing.
 use mathlib.Core.Path.{◌≡◌}
-use Prim.Native.Nat.{◌-◌}
 use lib.ListN.{get_or}
 use Rattle.plan.specs.Plan.{children}
 use Rattle.central.proofs.ScanLaws.{kids}
@@ -8,6 +7,3 @@ use Rattle.central.proofs.child_at.Given as goal
 
 abbrev pub invariant-loop-c : goal.invariant-loop-c
 invariant-loop-c l = get_or (children l.plan l.u) l.k 0 ≡ get_or (kids l.plan l.u l.n l.c) l.left 0
-
-abbrev pub decreases-loop-c : goal.decreases-loop-c
-decreases-loop-c l = l.n - l.c

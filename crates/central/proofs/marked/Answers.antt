@@ -1,9 +1,7 @@
--- The byte is at most 5, or counts as 5. Assumes nothing.
-use Rattle.central.proofs.MarkLaws.{byte_low, byte_high}
+-- A byte above 5 counts as 5. Assumes nothing.
+use Rattle.std.proofs.Common.{◌∙◌, ap, min}
+use Rattle.central.proofs.MarkLaws.{byte-read}
 use Rattle.central.proofs.marked.Goals as goal
 
-pub returns-then-b-gt5 : goal.returns-then-b-gt5
-returns-then-b-gt5 c = byte_high _ _ _ _ c.byte_of-b.ensures c.if-b-gt5.true
-
 pub returns : goal.returns
-returns c = byte_low _ _ _ _ c.byte_of-b.ensures c.if-b-gt5.false
+returns c = byte-read _ _ _ _ (c.min-mark.ensures ∙ ap (λ b. min b 5) c.byte_of.ensures)

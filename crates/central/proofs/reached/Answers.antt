@@ -1,30 +1,33 @@
 -- One law for each arm. Assumes nothing.
-use mathlib.Core.Path.{sym, ◌∙◌}
-use native.Mathlib.Omega.{arith}
-use Rattle.central.proofs.StartLaws.{reached-serial, reached-contingency, reached-free, reached-first, reached-second, reached-waiting, reached-other}
+use Rattle.std.proofs.Common.{◌∙◌, sym}
+use Rattle.central.specs.Central.{is_yes, is_no, reached_by}
+use Rattle.central.proofs.NoteLaws.{not-yes, not-no}
+use Rattle.central.proofs.StartLaws.{reached-serial, reached-free, reached-contingency, reached-first, reached-second}
 use Rattle.central.proofs.reached.Goals as goal
 
-pub returns-in-2 : goal.returns-in-2
-returns-in-2 c = c.all_marked.ensures ∙ reached-serial _ _ _ _ _ _ c.kind.ensures c.requires c.in-2.is
+pub returns-in-Task : goal.returns-in-Task
+unfolding reached_by
+returns-in-Task c = rw (← c.in-Task.ensures)
 
-pub returns-in-6 : goal.returns-in-6
-returns-in-6 c = c.all_marked-in-6.ensures ∙ reached-contingency _ _ _ _ _ _ c.kind.ensures c.requires c.in-6.is
+pub returns-in-Serial : goal.returns-in-Serial
+returns-in-Serial c = c.all_marked.ensures ∙ reached-serial _ _ _ _ _ c.requires c.in-Serial.ensures
 
-pub returns-then-all_marked : goal.returns-then-all_marked
-returns-then-all_marked c = rw c.answer.ensures (reached-first _ _ _ _ _ _ c.kind.ensures c.requires c.in-7.is (sym c.all_marked-in-7.ensures ∙ c.if-all_marked.true))
+pub returns-in-And : goal.returns-in-And
+returns-in-And c = reached-free _ _ _ _ _ c.requires c.node_kind.ensures c.in-And.is
 
-pub returns-else-all_marked : goal.returns-else-all_marked
-returns-else-all_marked c = rw c.answer-else-all_marked.ensures (reached-second _ _ _ _ _ _ c.kind.ensures c.requires c.in-7.is (sym c.all_marked-in-7.ensures ∙ c.if-all_marked.false))
+pub returns-in-Contingency : goal.returns-in-Contingency
+returns-in-Contingency c = c.all_marked-in-Contingency.ensures ∙ reached-contingency _ _ _ _ _ c.requires c.in-Contingency.ensures
 
-pub returns-in-8 : goal.returns-in-8
-returns-in-8 c = reached-waiting _ _ _ _ _ _ c.kind.ensures c.requires c.in-8.is
-
-pub returns-in-3-to-5 : goal.returns-in-3-to-5
-returns-in-3-to-5 c = reached-free _ _ _ _ _ _ c.kind.ensures c.requires (omega arith) (omega arith)
+pub returns-in-Yes : goal.returns-in-Yes
+unfolding is_yes
+returns-in-Yes c = reached-first _ _ _ _ _ c.requires c.in-Conditional.ensures c.in-Yes.ensures (sym c.all_marked-in-Conditional.ensures ∙ c.if-all_marked.true)
 
 pub returns-in_default : goal.returns-in_default
-returns-in_default c = reached-other _ _ _ _ _ _ c.kind.ensures c.requires (λ m n. omega arith)
+returns-in_default c = not-yes _ c.in_default.not-Yes ∙ reached-first _ _ _ _ _ c.requires c.in-Conditional.ensures c.answered.ensures (sym c.all_marked-in-Conditional.ensures ∙ c.if-all_marked.true)
 
-pub returns-in_default-2 : goal.returns-in_default-2
-returns-in_default-2 c =
-    reached-other _ _ _ _ _ _ c.kind.ensures c.requires (λ m n. omega arith)
+pub returns-in-No : goal.returns-in-No
+unfolding is_no
+returns-in-No c = reached-second _ _ _ _ _ c.requires c.in-Conditional.ensures c.in-No.ensures (sym c.all_marked-in-Conditional.ensures ∙ c.if-all_marked.false)
+
+pub returns-in_default-matches : goal.returns-in_default-matches
+returns-in_default-matches c = not-no _ c.in_default-matches.not-No ∙ reached-second _ _ _ _ _ c.requires c.in-Conditional.ensures c.answered-else-all_marked.ensures (sym c.all_marked-in-Conditional.ensures ∙ c.if-all_marked.false)

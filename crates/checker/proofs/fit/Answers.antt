@@ -1,17 +1,17 @@
--- Assumes nothing.
-use mathlib.Core.Path.{sym, ◌∙◌}
-use borrow.Author.Tests.{ne_eqb}
-use Rattle.plan.specs.Check.{check_number, fit_number}
+-- The check's own fault, or the lengths'. Assumes nothing.
+use Rattle.std.proofs.Common.{rules, ◌∙◌}
+use Rattle.plan.specs.Check.{fit_number}
+use Rattle.fault.proofs.Laws.{handed_on, first-failed}
 use Rattle.checker.proofs.fit.Goals as goal
 
-pub returns-then-number-ne0 : goal.returns-then-number-ne0
+pub returns-in_err-check : goal.returns-in_err-check
 unfolding fit_number
-returns-then-number-ne0 c = c.check-number.ensures ∙ rw (ne_eqb (check_number _) 0 (λ e. c.if-number-ne0.true (c.check-number.ensures ∙ e)))
+returns-in_err-check c = handed_on _ _ c.from_residual.ensures.1 ∙ first-failed _ _ _ c.in_err-check.ensures
 
 pub returns-then-fits : goal.returns-then-fits
 unfolding fit_number
-returns-then-fits c = rw (sym c.check-number.ensures ∙ c.if-number-ne0.false, c.if-fits.true)
+returns-then-fits c = search rules
 
 pub returns-else-fits : goal.returns-else-fits
 unfolding fit_number
-returns-else-fits c = rw (sym c.check-number.ensures ∙ c.if-number-ne0.false, c.if-fits.false)
+returns-else-fits c = search rules

@@ -1,6 +1,6 @@
 -- The loop knows whether each node below v passed. Assumes nothing.
 use mathlib.Core.Path.{◌≡◌}
-use Prim.Native.Nat.{◌-◌, ◌≤◌}
+use Prim.Native.Nat.{◌≤◌}
 use Rattle.lists.specs.Seq.{all_below}
 use Rattle.plan.specs.Plan.{size}
 use Rattle.plan.specs.Check.{kind_ok}
@@ -8,6 +8,3 @@ use Rattle.checker.proofs.kinds_ok.Given as goal
 
 abbrev pub invariant-loop-v : goal.invariant-loop-v
 invariant-loop-v l = (l.v ≤ size l.plan) × (l.ok ≡ all_below (kind_ok l.plan) l.v)
-
-abbrev pub decreases-loop-v : goal.decreases-loop-v
-decreases-loop-v l = l.n - l.v

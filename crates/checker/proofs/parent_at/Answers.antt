@@ -1,5 +1,5 @@
 -- Assumes nothing.
-use borrow.Author.Rules.{rules}
+use Rattle.std.proofs.Common.{rules}
 use Rattle.plan.specs.Plan.{size, parent}
 use Rattle.checker.proofs.parent_at.Goals as goal
 
@@ -17,4 +17,4 @@ bounds-plan-v c = search rules
 
 pub returns : goal.returns
 unfolding parent
-returns c = c.wide.ensures
+returns c = c.from.ensures

@@ -1,5 +1,5 @@
 -- Assumes nothing.
-use borrow.Author.Rules.{rules}
+use Rattle.std.proofs.Common.{rules}
 use Rattle.plan.specs.Plan.{size}
 use Rattle.depth_form.specs.Form.{depth_at}
 use Rattle.convert.proofs.depth_at.Goals as goal
@@ -18,4 +18,4 @@ bounds-depths-v c = search rules
 
 pub returns : goal.returns
 unfolding depth_at
-returns c = c.wide.ensures
+returns c = c.from.ensures

@@ -1,10 +1,6 @@
 -- The invariant is `Following` of proofs/ClimbLaws.antt. Assumes nothing.
-use Prim.Native.Nat.{◌-◌}
 use Rattle.convert.proofs.ClimbLaws.{Following}
 use Rattle.convert.proofs.in_preorder.Given as goal
 
 abbrev pub invariant-loop-v : goal.invariant-loop-v
 invariant-loop-v l = Following l.plan l.v
-
-abbrev pub decreases-loop-v : goal.decreases-loop-v
-decreases-loop-v l = l.n - l.v

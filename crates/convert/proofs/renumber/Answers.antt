@@ -1,12 +1,16 @@
 -- The tests; what passes them is written. Assumes nothing.
+use Rattle.std.proofs.Common.{refl, sym, ap, ◌∙◌}
+use Rattle.plan.specs.Replaced.{replaced}
+use Rattle.fault.proofs.Laws.{fault-some, handed_on}
 use Rattle.convert.proofs.CallLaws.{renumber-refused, renumber-ready, renumber-done}
 use Rattle.convert.proofs.renumber.Goals as goal
 
-pub returns-then-bad-ne0 : goal.returns-then-bad-ne0
-returns-then-bad-ne0 c = renumber-refused _ _ _ c.fit-bad.ensures c.if-bad-ne0.true
+pub returns-in_err-fit : goal.returns-in_err-fit
+returns-in_err-fit c =
+    renumber-refused _ _ _ c.in_err-fit.ensures (fault-some _) ∙ ap (λ k. replaced k c.args.out.now) (sym (handed_on _ _ c.from_residual.ensures.1))
 
 pub write_renumbered-requires : goal.write_renumbered-requires
-write_renumbered-requires c = renumber-ready _ c.args.out.now _ c.fit-bad.ensures c.if-bad-ne0.false
+write_renumbered-requires c = renumber-ready _ c.args.out.now _ c.in_ok-fit.ensures refl
 
 pub returns : goal.returns
-returns c = let d = c.before.before.before.before.before in renumber-done _ _ _ d.fit-bad.ensures d.if-bad-ne0.false _ c.write_renumbered.ensures
+returns c = renumber-done _ _ _ c.in_ok-fit.ensures refl _ c.write_renumbered.ensures

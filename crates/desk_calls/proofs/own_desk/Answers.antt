@@ -34,4 +34,4 @@ overflow_cast-node c = let k = there c.before in omega (arith, k.node_in, few c.
 
 pub returns : goal.returns
 unfolding own_desk desk_of
-returns c = λ k. c.byte_at.ensures ∙ ap (λ (i : ℕ). get_or c.args.plan.now (3 * i + 2) 0) (c.wide.ensures ∙ c.host-host.ensures ∙ ap (λ (q : List ℕ). host_of q (event_of c.args.code c.args.node)) c.requires.1)
+returns c = λ k. c.byte_at.ensures ∙ ap (λ (i : ℕ). get_or c.args.plan.now (3 * i + 2) 0) (c.from.ensures ∙ c.host-host.ensures ∙ ap (λ (q : List ℕ). host_of q (event_of c.args.code c.args.node)) c.requires.1)

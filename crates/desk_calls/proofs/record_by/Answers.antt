@@ -1,44 +1,28 @@
 -- The table, the check, the lengths, and then the marks and the classes. Assumes nothing.
-use mathlib.Core.Path.{sym, ◌∙◌}
-use native.Mathlib.Omega.{arith}
-use Rattle.desk_layout.proofs.PrepareLaws.{nodes-few, front_length, front-room}
-use Rattle.desk_layout.proofs.LayoutLaws.{length-few, prepared-laid, plan-size}
+use Rattle.std.proofs.Common.{sym, ◌∙◌}
+use Rattle.fault.proofs.Laws.{fault-some, handed_on}
+use Rattle.desk_layout.proofs.LayoutLaws.{desks-few, prepared-laid, plan-size}
 use Rattle.desk_calls.proofs.CallLaws.{table-first, desk-record-refused, record-wrong, marks-tested, desk-record-done}
 use Rattle.desk_calls.proofs.record_by.Goals as goal
 
-pub returns-then-bad-ne0 : goal.returns-then-bad-ne0
-returns-then-bad-ne0 c = table-first _ _ _ _ _ _ c.check_table-bad.ensures c.if-bad-ne0.true
+pub returns-in_err-check_table : goal.returns-in_err-check_table
+returns-in_err-check_table c = rw (handed_on _ _ c.from_residual.ensures.1) (table-first _ _ _ _ _ _ c.in_err-check_table.ensures (fault-some _))
 
-pub returns-then-at-ne0 : goal.returns-then-at-ne0
-returns-then-at-ne0 c = desk-record-refused _ _ c.prepare-at.ensures.number_value c.if-at-ne0.true _ _ _ _ (sym c.check_table-bad.ensures ∙ c.if-bad-ne0.false)
+pub returns-in_err-prepare : goal.returns-in_err-prepare
+returns-in_err-prepare c = rw (handed_on _ _ c.from_residual-in_err-prepare.ensures.1) (desk-record-refused _ _ c.in_err-prepare.ensures.number_value (fault-some _) _ _ _ _ (sym c.in_ok-check_table.ensures))
 
-pub overflow_mul-at : goal.overflow_mul-at
-overflow_mul-at c = omega (arith, length-few (c.prepare-at.ensures.prepared c.if-at-ne0.false) _ c.node_count-n.ensures)
+pub fits-requires : goal.fits-requires
+fits-requires c = desks-few c.in_ok-prepare.ensures.prepared _ c.in_ok-prepare.ensures.counted
 
-pub returns-then-not-state-at : goal.returns-then-not-state-at
-returns-then-not-state-at c = record-wrong _ _ _ _ _ (c.prepare-at.ensures.prepared c.if-at-ne0.false) _ c.node_count-n.ensures _ (sym c.check_table-bad.ensures ∙ c.if-bad-ne0.false) _ _ _ c.if-not-state-at.true
+pub returns-then-not-fits-marks : goal.returns-then-not-fits-marks
+returns-then-not-fits-marks c = record-wrong _ _ _ _ _ c.in_ok-prepare.ensures.prepared _ c.in_ok-prepare.ensures.counted _ (sym c.in_ok-check_table.ensures) _ _ _ (rw c.fits.ensures at c.if-not-fits-marks.true)
 
-pub overflow_mul-two : goal.overflow_mul-two
-overflow_mul-two c = omega (arith, c.node_count-n.ensures, nodes-few _ (c.prepare-at.ensures.prepared c.if-at-ne0.false).accepted)
-
-pub slice_bounds-two-end : goal.slice_bounds-two-end
-slice_bounds-two-end c = front-room _ _ (c.prepare-at.ensures.prepared c.if-at-ne0.false).front _ c.node_count-n.ensures
-
-pub slice_bounds-write_marks-end : goal.slice_bounds-write_marks-end
-slice_bounds-write_marks-end c = front_length _ _ (c.prepare-at.ensures.prepared c.if-at-ne0.false).front _ c.node_count-n.ensures
+pub layout-lay-requires : goal.layout-lay-requires
+layout-lay-requires c = (desks-few c.in_ok-prepare.ensures.prepared _ c.in_ok-prepare.ensures.counted).0
 
 pub write_marks-requires : goal.write_marks-requires
-write_marks-requires c = let t = marks-tested _ _ _ _ _ (c.prepare-at.ensures.prepared c.if-at-ne0.false) _ c.node_count-n.ensures c.args.state.now c.args.marks.now c.args.classes.now c.if-not-state-at.false in
-    record { laid = prepared-laid (c.prepare-at.ensures.prepared c.if-at-ne0.false) _ c.node_count-n.ensures _ t.0; marks_len = t.1 ∙ sym (plan-size (c.prepare-at.ensures.prepared c.if-at-ne0.false) _ c.node_count-n.ensures) }
-
-pub overflow_mul-two-2 : goal.overflow_mul-two-2
-overflow_mul-two-2 c = omega (arith, c.node_count-n.ensures, nodes-few _ (c.prepare-at.ensures.prepared c.if-at-ne0.false).accepted)
-
-pub slice_bounds-two-end-2 : goal.slice_bounds-two-end-2
-slice_bounds-two-end-2 c = front-room _ _ (c.prepare-at.ensures.prepared c.if-at-ne0.false).front _ c.node_count-n.ensures
-
-pub slice_bounds-classify-end : goal.slice_bounds-classify-end
-slice_bounds-classify-end c = front_length _ _ (c.prepare-at.ensures.prepared c.if-at-ne0.false).front _ c.node_count-n.ensures
+write_marks-requires c = let t = marks-tested _ _ _ _ _ c.in_ok-prepare.ensures.prepared _ c.in_ok-prepare.ensures.counted c.args.state.now c.args.marks.now c.args.classes.now (rw c.fits.ensures at c.if-not-fits-marks.false) in
+    rw (c.layout-lay.ensures.0, c.layout-lay.ensures.1, c.layout-lay.ensures.3) (record { laid = prepared-laid c.in_ok-prepare.ensures.prepared _ c.in_ok-prepare.ensures.counted _ t.0; marks_len = t.1 ∙ sym (plan-size c.in_ok-prepare.ensures.prepared _ c.in_ok-prepare.ensures.counted) })
 
 pub returns : goal.returns
-returns c = desk-record-done _ _ _ _ _ (c.prepare-at.ensures.prepared c.if-at-ne0.false) _ c.node_count-n.ensures _ (sym c.check_table-bad.ensures ∙ c.if-bad-ne0.false) _ _ _ c.if-not-state-at.false _ _ c.write_marks.ensures c.classify.ensures
+returns c = desk-record-done _ _ _ _ _ c.in_ok-prepare.ensures.prepared _ c.in_ok-prepare.ensures.counted _ (sym c.in_ok-check_table.ensures) _ _ _ (rw c.fits.ensures at c.if-not-fits-marks.false) _ _ (rw (c.layout-lay.ensures.0, c.layout-lay.ensures.1, c.layout-lay.ensures.3) at c.write_marks.ensures) (rw c.layout-lay.ensures.0 at c.classify.ensures)

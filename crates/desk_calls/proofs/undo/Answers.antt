@@ -1,52 +1,41 @@
 -- The check, the lengths, and then the layout of the desks. Assumes nothing.
-use mathlib.Core.Path.{sym, ◌∙◌}
-use native.Mathlib.Omega.{arith}
+use Rattle.std.proofs.Common.{sym}
+use Rattle.fault.proofs.Laws.{fault-some, handed_on}
+use Rattle.journal.specs.Journal.{no_entry}
 use Rattle.keeping.proofs.UndoLaws as KU
 use Rattle.keeping.proofs.UndoLaws.{undo-none, undo-bad}
-use Rattle.desk_layout.proofs.PrepareLaws.{nodes-few, front_length, front-room}
-use Rattle.desk_layout.proofs.LayoutLaws.{length-few, prepared-laid}
+use Rattle.desk_layout.proofs.LayoutLaws.{desks-few, prepared-laid}
 use Rattle.desk_calls.proofs.CallLaws.{undo-refused, undo-wrong, undo-tested, undo-done}
 use Rattle.desk_calls.proofs.undo.Goals as goal
 
-pub returns-then-at-ne0 : goal.returns-then-at-ne0
-returns-then-at-ne0 c = undo-refused _ _ c.prepare-at.ensures.number_value c.if-at-ne0.true _ _ _ _
+pub returns-in_err-prepare : goal.returns-in_err-prepare
+returns-in_err-prepare c = rw (handed_on _ _ c.from_residual.ensures.1) (undo-refused _ _ c.in_err-prepare.ensures.number_value (fault-some _) _ _ _)
 
-pub overflow_mul-at : goal.overflow_mul-at
-overflow_mul-at c = omega (arith, length-few (c.prepare-at.ensures.prepared c.if-at-ne0.false) _ c.node_count-n.ensures)
+pub fits-requires : goal.fits-requires
+fits-requires c = desks-few c.in_ok-prepare.ensures.prepared _ c.in_ok-prepare.ensures.counted
 
-pub returns-then-not-state-at : goal.returns-then-not-state-at
-returns-then-not-state-at c = undo-wrong _ _ _ _ _ (c.prepare-at.ensures.prepared c.if-at-ne0.false) _ c.node_count-n.ensures _ _ _ c.if-not-state-at.true _
+pub returns-then-not-fits-count : goal.returns-then-not-fits-count
+returns-then-not-fits-count c = undo-wrong _ _ _ _ _ c.in_ok-prepare.ensures.prepared _ c.in_ok-prepare.ensures.counted _ _ _ (rw c.fits.ensures at c.if-not-fits-count.true)
 
-pub returns-then-k-eq0 : goal.returns-then-k-eq0
-returns-then-k-eq0 c = let t = undo-tested _ _ _ _ _ (c.prepare-at.ensures.prepared c.if-at-ne0.false) _ c.node_count-n.ensures c.args.state.now c.args.count.now c.args.len c.if-not-state-at.false in undo-done _ _ _ _ _ (c.prepare-at.ensures.prepared c.if-at-ne0.false) _ c.node_count-n.ensures _ _ _ _ _ _ _ (λ es l last. undo-none _ _ _ _ (prepared-laid (c.prepare-at.ensures.prepared c.if-at-ne0.false) _ c.node_count-n.ensures c.args.state.now t.0) _ es _ _ l t.1 last c.if-k-eq0.true)
+pub returns-in_default : goal.returns-in_default
+returns-in_default c = let t = undo-tested _ _ _ _ _ c.in_ok-prepare.ensures.prepared _ c.in_ok-prepare.ensures.counted _ _ _ (rw c.fits.ensures at c.if-not-fits-count.false) in
+    undo-done _ _ _ _ _ c.in_ok-prepare.ensures.prepared _ c.in_ok-prepare.ensures.counted _ _ _ _ (undo-none _ _ _ _ (prepared-laid c.in_ok-prepare.ensures.prepared _ c.in_ok-prepare.ensures.counted _ t.0) no_entry _ _ t.1 c.in_default.ensures.last)
 
-pub overflow_mul-two : goal.overflow_mul-two
-overflow_mul-two c = omega (arith, c.node_count-n.ensures, nodes-few _ (c.prepare-at.ensures.prepared c.if-at-ne0.false).accepted)
+pub layout-lay-requires : goal.layout-lay-requires
+layout-lay-requires c = (desks-few c.in_ok-prepare.ensures.prepared _ c.in_ok-prepare.ensures.counted).0
 
-pub slice_bounds-two-end : goal.slice_bounds-two-end
-slice_bounds-two-end c = front-room _ _ (c.prepare-at.ensures.prepared c.if-at-ne0.false).front _ c.node_count-n.ensures
+pub entry_fault-requires : goal.entry_fault-requires
+entry_fault-requires c = let t = undo-tested _ _ _ _ _ c.in_ok-prepare.ensures.prepared _ c.in_ok-prepare.ensures.counted _ _ _ (rw c.fits.ensures at c.if-not-fits-count.false) in rw c.layout-lay.ensures.0 (prepared-laid c.in_ok-prepare.ensures.prepared _ c.in_ok-prepare.ensures.counted _ t.0).plan.few
 
-pub slice_bounds-entry_fault-end : goal.slice_bounds-entry_fault-end
-slice_bounds-entry_fault-end c = front_length _ _ (c.prepare-at.ensures.prepared c.if-at-ne0.false).front _ c.node_count-n.ensures
-
-pub entry_fault-fault-requires : goal.entry_fault-fault-requires
-entry_fault-fault-requires c = let t = undo-tested _ _ _ _ _ (c.prepare-at.ensures.prepared c.if-at-ne0.false) _ c.node_count-n.ensures c.args.state.now c.args.count.now c.args.len c.if-not-state-at.false in (prepared-laid (c.prepare-at.ensures.prepared c.if-at-ne0.false) _ c.node_count-n.ensures c.args.state.now t.0).plan.few
-
-pub returns-then-fault-ne0 : goal.returns-then-fault-ne0
-returns-then-fault-ne0 c = let t = undo-tested _ _ _ _ _ (c.prepare-at.ensures.prepared c.if-at-ne0.false) _ c.node_count-n.ensures c.args.state.now c.args.count.now c.args.len c.if-not-state-at.false in undo-done _ _ _ _ _ (c.prepare-at.ensures.prepared c.if-at-ne0.false) _ c.node_count-n.ensures _ _ _ _ _ _ _ (λ es l last. undo-bad _ _ _ _ (prepared-laid (c.prepare-at.ensures.prepared c.if-at-ne0.false) _ c.node_count-n.ensures c.args.state.now t.0) _ es _ _ l t.1 last c.if-k-eq0.false _ (c.entry_fault-fault.ensures _) c.if-fault-ne0.true)
-
-pub overflow_mul-two-2 : goal.overflow_mul-two-2
-overflow_mul-two-2 c = omega (arith, c.node_count-n.ensures, nodes-few _ (c.prepare-at.ensures.prepared c.if-at-ne0.false).accepted)
-
-pub slice_bounds-two-end-2 : goal.slice_bounds-two-end-2
-slice_bounds-two-end-2 c = front-room _ _ (c.prepare-at.ensures.prepared c.if-at-ne0.false).front _ c.node_count-n.ensures
-
-pub slice_bounds-take_back-end : goal.slice_bounds-take_back-end
-slice_bounds-take_back-end c = front_length _ _ (c.prepare-at.ensures.prepared c.if-at-ne0.false).front _ c.node_count-n.ensures
+pub returns-in_err-entry_fault : goal.returns-in_err-entry_fault
+returns-in_err-entry_fault c = let t = undo-tested _ _ _ _ _ c.in_ok-prepare.ensures.prepared _ c.in_ok-prepare.ensures.counted _ _ _ (rw c.fits.ensures at c.if-not-fits-count.false) in
+    rw (handed_on _ _ c.from_residual-in_err-entry_fault.ensures.1)
+    (undo-done _ _ _ _ _ c.in_ok-prepare.ensures.prepared _ c.in_ok-prepare.ensures.counted _ _ _ _ (undo-bad _ _ _ _ (prepared-laid c.in_ok-prepare.ensures.prepared _ c.in_ok-prepare.ensures.counted _ t.0) _ _ _ t.1 c.in-Some.ensures.none c.in-Some.ensures.last _ (rw (c.layout-lay.ensures.0, c.layout-lay.ensures.2, c.layout-lay.ensures.3) at (c.in_err-entry_fault.ensures c.prepare.new.self.home)) (fault-some _)))
 
 pub take_back-requires : goal.take_back-requires
-take_back-requires c = let t = undo-tested _ _ _ _ _ (c.prepare-at.ensures.prepared c.if-at-ne0.false) _ c.node_count-n.ensures c.args.state.now c.args.count.now c.args.len c.if-not-state-at.false in
-    record { laid = (prepared-laid (c.prepare-at.ensures.prepared c.if-at-ne0.false) _ c.node_count-n.ensures c.args.state.now t.0); e_value = sym (c.entry_fault-fault.ensures _) ∙ c.if-fault-ne0.false }
+take_back-requires c = let t = undo-tested _ _ _ _ _ c.in_ok-prepare.ensures.prepared _ c.in_ok-prepare.ensures.counted _ _ _ (rw c.fits.ensures at c.if-not-fits-count.false) in
+    record { laid = rw (c.layout-lay.ensures.0, c.layout-lay.ensures.1, c.layout-lay.ensures.3) (prepared-laid c.in_ok-prepare.ensures.prepared _ c.in_ok-prepare.ensures.counted _ t.0); e_value = sym (c.in_ok-entry_fault.ensures _) }
 
 pub returns : goal.returns
-returns c = let t = undo-tested _ _ _ _ _ (c.prepare-at.ensures.prepared c.if-at-ne0.false) _ c.node_count-n.ensures c.args.state.now c.args.count.now c.args.len c.if-not-state-at.false in undo-done _ _ _ _ _ (c.prepare-at.ensures.prepared c.if-at-ne0.false) _ c.node_count-n.ensures _ _ _ _ _ _ _ (λ es l last. KU.undo-done _ _ _ _ (prepared-laid (c.prepare-at.ensures.prepared c.if-at-ne0.false) _ c.node_count-n.ensures c.args.state.now t.0) _ es _ _ l t.1 last c.if-k-eq0.false (sym (c.entry_fault-fault.ensures _) ∙ c.if-fault-ne0.false) _ c.take_back.ensures)
+returns c = let t = undo-tested _ _ _ _ _ c.in_ok-prepare.ensures.prepared _ c.in_ok-prepare.ensures.counted _ _ _ (rw c.fits.ensures at c.if-not-fits-count.false) in
+    undo-done _ _ _ _ _ c.in_ok-prepare.ensures.prepared _ c.in_ok-prepare.ensures.counted _ _ _ _ (KU.undo-done _ _ _ _ (prepared-laid c.in_ok-prepare.ensures.prepared _ c.in_ok-prepare.ensures.counted _ t.0) _ _ _ t.1 c.in-Some.ensures.none c.in-Some.ensures.last (rw (c.layout-lay.ensures.0, c.layout-lay.ensures.2, c.layout-lay.ensures.3) at (sym (c.in_ok-entry_fault.ensures c.prepare.new.self.home))) _ (rw (c.layout-lay.ensures.0, c.layout-lay.ensures.1, c.layout-lay.ensures.2, c.layout-lay.ensures.3) at c.take_back.ensures))

@@ -3,4 +3,4 @@ use Rattle.results.proofs.ResultLaws.{returned-result}
 use Rattle.desk_exports.proofs.vulcedar_desk_point_back.Goals as goal
 
 pub returns : goal.returns
-returns c = returned-result _ _ _ _ _ _ c.point_back-back.ensures _ c.packed.ensures
+returns c = returned-result _ _ _ _ _ _ c.point_back.ensures _ c.of_done.ensures

@@ -3,4 +3,4 @@ use Rattle.results.proofs.ResultLaws.{returned-result}
 use Rattle.desk_exports.proofs.vulcedar_desk_point_undo.Goals as goal
 
 pub returns : goal.returns
-returns c = returned-result _ _ _ _ _ _ c.point_undo-taken.ensures _ c.packed.ensures
+returns c = returned-result _ _ _ _ _ _ c.point_undo.ensures _ c.of_done.ensures

@@ -1,5 +1,5 @@
 -- The parts of the contract's one value. Assumes nothing.
-use mathlib.Core.Path.{sym, ap, ◌∙◌}
+use Rattle.std.proofs.Common.{sym, ap, ◌∙◌}
 use Rattle.results.specs.Result.{of_verdict}
 use Rattle.desk_exports.proofs.vulcedar_desk_step.Goals as goal
 

@@ -13,4 +13,4 @@ pub loop-d-preserved : goal.loop-d-preserved
 loop-d-preserved c = numbering-turn _ _ _ _ _ c.loop-d.invariant c.requires.1 (omega arith) _ _ _ refl c.numbered.ensures c.next_row-count.ensures
 
 pub returns : goal.returns
-returns c = record { value = c.wide.ensures ∙ numbered-count _ _ _ _ _ c.loop-d.invariant (omega arith); row_after = numbered-all _ _ _ _ _ c.loop-d.invariant (omega arith) }
+returns c = record { value = c.from.ensures ∙ numbered-count _ _ _ _ _ c.loop-d.invariant (omega arith); row_after = numbered-all _ _ _ _ _ c.loop-d.invariant (omega arith) }

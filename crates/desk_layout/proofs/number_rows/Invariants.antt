@@ -1,10 +1,6 @@
 -- The desks below d are numbered. Assumes nothing.
-use Prim.Native.Nat.{◌-◌}
 use Rattle.desk_layout.proofs.NumberLaws.{Numbering}
 use Rattle.desk_layout.proofs.number_rows.Given as goal
 
 abbrev pub invariant-loop-d : goal.invariant-loop-d
 invariant-loop-d l = Numbering l.initial.row l.top l.row l.count l.d
-
-abbrev pub decreases-loop-d : goal.decreases-loop-d
-decreases-loop-d l = l.top - l.d

@@ -11,9 +11,9 @@ use Rattle.desk_layout.proofs.split.Tie
 use Rattle.desk_layout.proofs.split.Reads
 
 -- a turn, for a number that is above the old one and this desk, and no higher than it must be
-turn : (c : Lts.Joined1 Tie.the-claims Reads.Pre Reads.Post goal.the-invariant-loop-v goal.the-decreases-loop-v Tie.handed_clauses) → let a = c.args in let i = c.loop-v in c.wide-d.result < c.if-top-d.top → i.top ≤ c.if-top-d.top → (c.if-top-d.top ≡ i.top) ⊎ (c.if-top-d.top ≡ c.wide-d.result + 1) →
-    Splitting a.plan.now (set (set i.two (2 * i.v) (get_or a.plan.now (3 * i.v) 0)) (2 * i.v + 1) (get_or a.plan.now (3 * i.v + 1) 0)) (set i.row c.wide-d.result 0) c.if-top-d.top (i.v + 1)
-turn c mine old least = split-turn _ _ _ _ _ c.loop-v.invariant _ _ (c.wide-d.ensures ∙ c.desk_at.ensures) mine old least c.requires.1 (omega (arith, c.node_count-n.ensures)) (omega arith) _ _ refl refl
+turn : (c : Lts.Joined1 Tie.the-claims Reads.Pre Reads.Post goal.the-invariant-loop-v goal.the-decreases-loop-v Tie.handed_clauses) → let a = c.args in let i = c.loop-v in c.from-d.result < c.if-top-d.top → i.top ≤ c.if-top-d.top → (c.if-top-d.top ≡ i.top) ⊎ (c.if-top-d.top ≡ c.from-d.result + 1) →
+    Splitting a.plan.now (set (set i.two (2 * i.v) (get_or a.plan.now (3 * i.v) 0)) (2 * i.v + 1) (get_or a.plan.now (3 * i.v + 1) 0)) (set i.row c.from-d.result 0) c.if-top-d.top (i.v + 1)
+turn c mine old least = split-turn _ _ _ _ _ c.loop-v.invariant _ _ (c.from-d.ensures ∙ c.desk_at.ensures) mine old least c.requires.1 (omega (arith, c.node_count-n.ensures)) (omega arith) _ _ refl refl
 
 pub loop-v-init : goal.loop-v-init
 loop-v-init c = split-none _ _ _ c.requires.0 c.requires.2

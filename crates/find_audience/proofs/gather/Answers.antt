@@ -1,7 +1,4 @@
-use native.Mathlib.Nat.{zero-add}
-use native.Mathlib.Omega.{arith}
-use borrow.Author.Rules.{rules}
-use borrow.Author.Tests.{eq-eqb, ne_eqb}
+use Rattle.std.proofs.Common.{zero-add, arith, rules, eq-eqb, ne_eqb}
 use Rattle.plan.specs.Plan.{size, parent}
 use Rattle.guard.proofs.FamilyLaws.{kept, skipped, kept-room, all-kept}
 use Rattle.find_audience.proofs.NextLaws.{children-begin}

@@ -1,9 +1,5 @@
 -- By the code. Assumes nothing.
-use mathlib.Core.Path.{ap}
-use mathlib.Core.List.{[], ◌∷◌}
-use mathlib.Core.Logic.{inl, inr}
-use Prim.Native.Nat.{ℕ}
-use native.Mathlib.Omega.{arith}
+use Rattle.std.proofs.Common.{ap, [], ◌∷◌, inl, inr, ℕ, arith}
 use Rattle.plan.specs.Plan.{kind_of}
 use Rattle.event.specs.Event.{code_of}
 use Rattle.audience.specs.Hearers.{hearers_by}
@@ -15,10 +11,10 @@ pub on_start-requires : goal.on_start-requires
 on_start-requires c = let s = c.before.before.before in (s.requires.0, s.requires.1)
 
 pub on_end-requires : goal.on_end-requires
-on_end-requires c = let s = c.before.before.before in (s.requires.0, s.requires.1, omega arith, omega arith)
+on_end-requires c = c.requires.0.few
 
 pub on_end-requires-in-4 : goal.on_end-requires-in-4
-on_end-requires-in-4 c = let s = c.before.before.before in (s.requires.0, s.requires.1, omega arith, omega arith)
+on_end-requires-in-4 c = c.requires.0.few
 
 pub next-requires : goal.next-requires
 next-requires c = c.requires.0.few

@@ -1,19 +1,18 @@
-use mathlib.Core.Path.{sym}
-use native.Mathlib.Omega.{arith}
+use Rattle.std.proofs.Common.{sym, arith}
 use Rattle.plan.specs.Plan.{size, parent}
 use Rattle.find_audience.proofs.NextLaws.{seek-begin, seek_found, seek-on, seek-out}
 use Rattle.find_audience.proofs.next.Goals as goal
 
 pub loop-c-init : goal.loop-c-init
-loop-c-init c = rw c.wide-c.ensures (seek-begin _ _ _ _ _ c.node_count-n.ensures)
+loop-c-init c = rw c.from-c.ensures (seek-begin _ _ _ _ _ c.node_count-n.ensures)
 
 pub overflow_mul-c : goal.overflow_mul-c
 unfolding size
 overflow_mul-c c = omega (arith, c.node_count-n.ensures)
 
-pub overflow_add-c-in-loop-c : goal.overflow_add-c-in-loop-c
+pub overflow_add-c : goal.overflow_add-c
 unfolding size
-overflow_add-c-in-loop-c c = omega (arith, c.node_count-n.ensures)
+overflow_add-c c = omega (arith, c.node_count-n.ensures)
 
 pub bounds-plan-c : goal.bounds-plan-c
 unfolding size

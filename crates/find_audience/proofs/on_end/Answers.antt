@@ -1,25 +1,26 @@
 -- By the kind above v. Assumes nothing.
-use mathlib.Core.Path.{◌∙◌}
+use Rattle.std.proofs.Common.{sym, ◌∙◌, rules}
+use denote.Enum.Bare.{same_true, same_false}
+use Rattle.plan.specs.contracts.kinds.Kind.{the_type}
 use Rattle.find_audience.specs.Whom.{whom_list}
 use Rattle.find_audience.proofs.WhomLaws.{end_none, end-turn, end-up}
 use Rattle.find_audience.proofs.on_end.Goals as goal
 
-pub returns-then-k-le1 : goal.returns-then-k-le1
+pub returns-then-eq : goal.returns-then-eq
 unfolding whom_list
-returns-then-k-le1 c = let s = c.before.before.before.before.before in
-    end_none _ s.requires.0 _ _ _ s.requires.1 c.above-k.ensures c.if-k-le1.true
+returns-then-eq c = end_none _ _ _ (sym c.kind_above-above.ensures ∙ same_true the_type (search rules) _ _ (sym c.if-eq.ensures))
 
 pub next-requires : goal.next-requires
-next-requires c = c.requires.0.few
+next-requires c = c.requires
 
-pub returns-then-k-turn : goal.returns-then-k-turn
+pub returns-then-eq-2 : goal.returns-then-eq-2
 unfolding whom_list
-returns-then-k-turn c = let s = c.before.before.before.before.before.before.before in
-    let u = c.parent-u.ensures in
-    end-turn _ s.requires.0 _ _ _ s.requires.1 c.above-k.ensures s.requires.2 s.requires.3 c.if-k-le1.false c.if-k-turn.true _
-    (c.next.ensures ∙ rw u)
+returns-then-eq-2 c =
+    end-turn _ _ _ (λ z. same_false the_type _ _ (sym c.if-eq.ensures) (c.kind_above-above.ensures ∙ z))
+    (sym c.kind_above-above.ensures ∙ same_true the_type (search rules) _ _ (sym c.if-eq-2.ensures)) _ (c.next.ensures ∙ rw c.parent-u.ensures)
 
 pub returns : goal.returns
 unfolding whom_list
-returns c = let s = c.before.before.before.before.before.before in
-    rw c.parent-u.ensures (end-up _ s.requires.0 _ _ _ s.requires.1 c.above-k.ensures s.requires.2 s.requires.3 c.if-k-le1.false c.if-k-turn.false)
+returns c = rw c.parent-u.ensures
+    (end-up _ _ _ (λ z. same_false the_type _ _ (sym c.if-eq.ensures) (c.kind_above-above.ensures ∙ z))
+    (λ z. same_false the_type _ _ (sym c.if-eq-2.ensures) (c.kind_above-above.ensures ∙ z)))

@@ -1,24 +1,19 @@
 -- By the kind of v. Assumes nothing.
-use borrow.Author.Tests.{eqb-true, eqb-false, leb-true, leb-false}
 use Rattle.find_audience.specs.Whom.{whom_list}
-use Rattle.find_audience.proofs.WhomLaws.{one_of, neither, start-turn, start_none, start-all}
+use Rattle.find_audience.proofs.WhomLaws.{start-turn, start_none, start-all}
 use Rattle.find_audience.proofs.on_start.Goals as goal
+
+pub returns-in-Task : goal.returns-in-Task
+unfolding whom_list
+returns-in-Task c = start_none _ _ c.node_kind.ensures c.in-Task.is _
 
 pub next-requires : goal.next-requires
 next-requires c = c.requires.0.few
 
-pub returns-then-k : goal.returns-then-k
+pub returns-in-Serial : goal.returns-in-Serial
 unfolding whom_list
-returns-then-k c = let s = c.before.before.before.before.before in
-    start-turn _ _ _ c.kind-k.ensures s.requires.0 s.requires.1 (one_of _ _ (eqb-true _ 2) (eqb-true _ 6) c.if-k.true) _ c.next.ensures
+returns-in-Serial c = start-turn _ _ c.node_kind.ensures c.requires.0 c.requires.1 c.in-Serial.is _ c.next.ensures
 
-pub returns-then-k-2 : goal.returns-then-k-2
+pub returns-in-And : goal.returns-in-And
 unfolding whom_list
-returns-then-k-2 c = start_none _ _ _ c.kind-k.ensures (one_of _ _ (leb-true _ 1) (eqb-true _ 7) c.if-k-2.true)
-
-pub returns : goal.returns
-unfolding whom_list
-returns c = let s = c.before.before.before.before.before in
-    let a = neither _ _ c.if-k.false in
-    let b = neither _ _ c.if-k-2.false in
-    start-all _ _ _ c.kind-k.ensures s.requires.0 s.requires.1 (leb-false _ 1 b.0) (eqb-false _ 2 a.0) (eqb-false _ 6 a.1) (eqb-false _ 7 b.1)
+returns-in-And c = start-all _ _ c.node_kind.ensures c.in-And.is _

@@ -1,6 +1,5 @@
 -- By whom. Assumes nothing.
-use mathlib.Core.Path.{refl}
-use native.Mathlib.Omega.{arith}
+use Rattle.std.proofs.Common.{refl, arith}
 use Rattle.find_audience.specs.Whom.{whom_list}
 use Rattle.find_audience.proofs.put.Goals as goal
 

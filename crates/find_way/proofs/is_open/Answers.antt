@@ -1,13 +1,12 @@
--- The root's marks, and of them the one that is wanted. Assumes nothing.
-use mathlib.Core.Path.{ap}
-use borrow.Author.Tests.{eq-eqb, ne_eqb}
+-- Of the root's marks the one that is wanted. Assumes nothing.
+use Rattle.std.proofs.Common.{eq-eqb, ne_eqb}
 use Rattle.find_way.specs.Search.{opens}
 use Rattle.find_way.proofs.is_open.Goals as goal
 
 pub returns-then-end-eq3 : goal.returns-then-end-eq3
 unfolding opens
-returns-then-end-eq3 c = rw (eq-eqb _ 3 c.if-end-eq3.true) (ap (λ m. m.done) c.unpack-m.ensures)
+returns-then-end-eq3 c = rw (eq-eqb _ 3 c.if-end-eq3.true)
 
 pub returns-else-end-eq3 : goal.returns-else-end-eq3
 unfolding opens
-returns-else-end-eq3 c = rw (ne_eqb _ 3 c.if-end-eq3.false) (ap (λ m. m.failed) c.unpack-m.ensures)
+returns-else-end-eq3 c = rw (ne_eqb _ 3 c.if-end-eq3.false)

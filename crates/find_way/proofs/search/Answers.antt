@@ -1,16 +1,14 @@
 use mathlib.Core.Path.{refl, sym, ◌∙◌}
-use Prim.Native.Nat.{ℕ}
 use native.Mathlib.Omega.{arith}
-use lib.ListN.{length-replicate}
 use Rattle.plan.specs.Plan.{size}
 use Rattle.find_way.proofs.ChooseLaws.{put-long, show-none, show-empty, show-open, show-turn, show-done}
 use Rattle.find_way.proofs.search.Goals as goal
 
-pub link_all-requires : goal.link_all-requires
-link_all-requires c = (c.requires.0, refl, refl)
+pub link-links-requires : goal.link-links-requires
+link-links-requires c = c.requires.0
 
 pub fill-requires : goal.fill-requires
-fill-requires c = let r = c.requires in (record { accepted = r.0; linked = c.link_all.ensures; answers = r.1 }, length-replicate {A = ℕ} 160 0)
+fill-requires c = let r = c.requires in (record { accepted = r.0; linked = c.link-links.ensures; answers = r.1 }, refl)
 
 pub shape_of-answers-then-not-is_open : goal.shape_of-answers-then-not-is_open
 shape_of-answers-then-not-is_open c = refl
@@ -18,12 +16,12 @@ shape_of-answers-then-not-is_open c = refl
 pub returns-then-not-is_open : goal.returns-then-not-is_open
 returns-then-not-is_open c =
     let r = c.requires in
-    show-empty (record { accepted = r.0; linked = c.link_all.ensures; answers = r.1 }) r.2 c.fill.ensures (sym c.is_open.ensures ∙ c.if-not-is_open.true)
+    show-empty (record { accepted = r.0; linked = c.link-links.ensures; answers = r.1 }) r.2 c.fill.ensures (sym c.is_open.ensures ∙ c.if-not-is_open.true)
 
 pub loop-i-init : goal.loop-i-init
 loop-i-init c =
     let r = c.requires in
-    (show-none (record { accepted = r.0; linked = c.link_all.ensures; answers = r.1 }) r.2 c.fill.ensures (sym c.is_open.ensures ∙ c.if-not-is_open.false), refl)
+    (show-none (record { accepted = r.0; linked = c.link-links.ensures; answers = r.1 }) r.2 c.fill.ensures (sym c.is_open.ensures ∙ c.if-not-is_open.false), refl)
 
 pub choose-requires : goal.choose-requires
 unfolding size

@@ -1,8 +1,8 @@
 -- The parts of the contract's one value. Assumes nothing.
-use mathlib.Core.Path.{sym, ap, ◌∙◌}
+use Rattle.std.proofs.Common.{sym, ap, ◌∙◌}
 use Rattle.results.specs.Result.{result_of}
 use Rattle.form_exports.proofs.vulcedar_rewrite.Goals as goal
 
 pub returns : goal.returns
 returns c = let e = sym c.rewrite.ensures in
-    record { value = c.packed.ensures ∙ ap (λ s. result_of s.number 0 0) e; out_after = ap (λ s. s.out) e }
+    record { value = c.of_done.ensures ∙ ap (λ s. result_of s.number 0 0) e; out_after = ap (λ s. s.out) e }

@@ -1,30 +1,24 @@
--- The tests' number, or the rule. Assumes nothing.
-use mathlib.Core.Path.{sym, ◌∙◌}
-use mathlib.Core.Bool.{true}
-use native.Mathlib.Omega.{arith}
-use Rattle.event.specs.Valid.{Valid}
+-- The tests, or the rule. Assumes nothing.
+use Rattle.std.proofs.Common.{sym, arith, refl}
 use Rattle.event.proofs.ValidLaws.{valid}
+use Rattle.fault.proofs.Laws.{fault-some, handed_on, handed_on-value}
 use Rattle.guard.proofs.RuleLaws.{rule-small, answer-refused, answer-found}
 use Rattle.guard.proofs.rule.Goals as goal
-use Rattle.guard.proofs.rule.Lts
-use Rattle.guard.proofs.rule.Tie
-use Rattle.guard.proofs.rule.Reads
 
--- what holds once the tests have passed
-ok : (c : Lts.Else1 Tie.the-claims Reads.Pre Reads.Post) → let a = c.args in Valid a.plan.now true true a.code a.node
-ok c = valid _ _ _ _ _ (sym c.validate-number.ensures ∙ c.if-number-ne0.false)
-
-pub returns-then-number-ne0 : goal.returns-then-number-ne0
-returns-then-number-ne0 c = answer-refused _ _ _ c.validate-number.ensures c.if-number-ne0.true
+pub returns-in_err-validate : goal.returns-in_err-validate
+returns-in_err-validate c =
+    let h = c.from_residual.ensures.1 in
+    rw (handed_on _ _ h, handed_on-value _ _ h) (answer-refused _ _ _ c.in_err-validate.ensures (fault-some _))
 
 pub overflow_cast-code : goal.overflow_cast-code
-overflow_cast-code c = let v = ok c.before in omega arith
+overflow_cast-code c = let v = valid _ _ _ _ _ (sym c.in_ok-validate.ensures) in omega (arith, v.high)
 
 pub overflow_cast-node : goal.overflow_cast-node
-overflow_cast-node c = let v = ok c.before in omega (arith, v.plan.few)
+overflow_cast-node c = let v = valid _ _ _ _ _ (sym c.in_ok-validate.ensures) in omega (arith, v.node_in, v.plan.few)
 
-pub overflow_cast-rule : goal.overflow_cast-rule
-overflow_cast-rule c = let e = c.before.before in omega (arith, c.rule_number-rule.ensures, rule-small (ok e).plan (ok e).node_in e.args.code)
+pub overflow_cast-result : goal.overflow_cast-result
+overflow_cast-result c =
+    let v = valid _ _ _ _ _ (sym c.in_ok-validate.ensures) in omega (arith, c.rule_number.ensures, rule-small v.plan v.node_in c.args.code)
 
 pub returns : goal.returns
-returns c = answer-found _ _ _ c.validate-number.ensures c.if-number-ne0.false c.rule_number-rule.ensures
+returns c = answer-found _ _ _ c.in_ok-validate.ensures refl c.rule_number.ensures

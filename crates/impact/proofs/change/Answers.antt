@@ -1,25 +1,26 @@
 -- What the pass over the answers told, case by case. Assumes nothing.
-use native.Mathlib.Omega.{arith}
+use Rattle.std.proofs.Common.{refl, sym, ◌∙◌, arith}
+use Rattle.fault.proofs.Laws.{fault-some, handed_on}
 use Rattle.impact.proofs.ChangeLaws.{change-old, change-wide, change-same, change-later, change-marks}
 use Rattle.impact.proofs.change.Goals as goal
 
-pub returns-then-number-ne0 : goal.returns-then-number-ne0
-returns-then-number-ne0 c = change-old c.args.plan.now c.args.answers.now c.args.marks.now _ _ c.old_pass-told.result c.requires.0 c.requires.1 c.old_pass-told.ensures c.if-number-ne0.true
+pub returns-in_err-same : goal.returns-in_err-same
+returns-in_err-same c = rw (handed_on _ _ c.from_residual.ensures.1)
+    (change-old _ _ _ _ _ c.requires.0 c.requires.1 _ c.in_err-same.ensures.number (fault-some _))
 
 pub returns-then-answer-gt255 : goal.returns-then-answer-gt255
-returns-then-answer-gt255 c = change-wide c.args.plan.now c.args.answers.now c.args.marks.now _ _ c.old_pass-told.result c.requires.0 c.requires.1 c.old_pass-told.ensures c.if-number-ne0.false c.if-answer-gt255.true
+returns-then-answer-gt255 c = change-wide _ _ _ _ _ c.requires.0 c.requires.1 (sym c.in_ok-same.ensures.number) c.if-answer-gt255.true
 
-pub returns-then-told : goal.returns-then-told
-returns-then-told c =
-    let byte = c.if-answer-gt255.false in
-    change-same c.args.plan.now c.args.answers.now c.args.marks.now _ _ c.old_pass-told.result c.requires.0 c.requires.1 c.old_pass-told.ensures c.if-number-ne0.false (omega arith) _ _ c.if-told.true c.pass_new.ensures
+pub returns-then-same : goal.returns-then-same
+returns-then-same c =
+    let told = c.in_ok-same.ensures in
+    change-same _ _ _ _ _ c.requires.0 c.requires.1 (sym told.number) (omega (arith, c.if-answer-gt255.false)) _ _ (sym told.same ∙ c.if-same.true) c.pass_new.ensures
 
-pub returns-then-later-ne0 : goal.returns-then-later-ne0
-returns-then-later-ne0 c =
-    let byte = c.if-answer-gt255.false in
-    change-later c.args.plan.now c.args.answers.now c.args.marks.now _ _ c.old_pass-told.result c.requires.0 c.requires.1 c.old_pass-told.ensures c.if-number-ne0.false (omega arith) _ c.new_number-later.ensures c.if-later-ne0.true
+pub returns-in_err-check_new : goal.returns-in_err-check_new
+returns-in_err-check_new c = rw (handed_on _ _ c.from_residual-in_err-check_new.ensures.1)
+    (change-later _ _ _ _ _ c.requires.0 c.requires.1 (sym c.in_ok-same.ensures.number) (omega (arith, c.if-answer-gt255.false)) _ c.in_err-check_new.ensures (fault-some _))
 
 pub returns : goal.returns
 returns c =
-    let byte = c.if-answer-gt255.false in
-    change-marks c.args.plan.now c.args.answers.now c.args.marks.now _ _ c.old_pass-told.result c.requires.0 c.requires.1 c.old_pass-told.ensures c.if-number-ne0.false (omega arith) _ c.new_number-later.ensures c.if-later-ne0.false c.if-told.false
+    let told = c.in_ok-same.ensures in
+    change-marks _ _ _ _ _ c.requires.0 c.requires.1 (sym told.number) (omega (arith, c.if-answer-gt255.false)) _ c.in_ok-check_new.ensures refl (sym told.same ∙ c.if-same.false)

@@ -1,37 +1,29 @@
 -- The tests in order, and then the change. Assumes nothing.
-use mathlib.Core.Path.{◌∙◌}
-use native.Mathlib.Omega.{arith}
-use Rattle.plan.specs.Plan.{kind_byte}
-use Rattle.pass.specs.Values.{Ready}
-use Rattle.impact.proofs.ChangeLaws.{impact-unfit, impact-ready, impact-no-node, impact-changeable, impact-no-task, impact-change}
+use Rattle.std.proofs.Common.{refl, ◌∙◌, arith}
+use Rattle.fault.proofs.Laws.{fault-some, handed_on}
+use Rattle.impact.proofs.ChangeLaws.{impact-unfit, impact-ready, impact-no-node, impact-changeable, impact-no-task, impact-change, no-task, a-task}
 use Rattle.impact.proofs.impact.Goals as goal
-use Rattle.impact.proofs.impact.Lts
-use Rattle.impact.proofs.impact.Tie
-use Rattle.impact.proofs.impact.Reads
 
-pub returns-then-bad-ne0 : goal.returns-then-bad-ne0
-returns-then-bad-ne0 c = impact-unfit c.args.plan.now c.args.answers.now c.args.marks.now c.args.task c.args.answer _ _ c.node_count-n.ensures c.fit-bad.ensures c.if-bad-ne0.true
-
--- the plan and the lengths are right
-ready : (c : Lts.Else1 Tie.the-claims Reads.Pre Reads.Post) → Ready c.args.plan.now c.args.answers.now c.args.marks.now 0
-ready c = impact-ready c.args.plan.now c.args.answers.now c.args.marks.now c.args.task c.args.answer _ _ c.node_count-n.ensures c.fit-bad.ensures c.if-bad-ne0.false
+pub returns-in_err-fit : goal.returns-in_err-fit
+returns-in_err-fit c = rw (handed_on _ _ c.from_residual.ensures.1) (impact-unfit _ _ _ _ _ _ _ c.node_count-n.ensures c.in_err-fit.ensures (fault-some _))
 
 pub returns-then-n-t : goal.returns-then-n-t
-returns-then-n-t c = impact-no-node c.args.plan.now c.args.answers.now c.args.marks.now c.args.task c.args.answer _ _ c.node_count-n.ensures c.fit-bad.ensures c.if-bad-ne0.false c.if-n-t.true
+returns-then-n-t c = impact-no-node _ _ _ _ _ _ _ c.node_count-n.ensures c.in_ok-fit.ensures refl c.if-n-t.true
 
 pub bounds-plan-t : goal.bounds-plan-t
-bounds-plan-t c = omega (arith, (ready c.before.before.before).accepted.even, c.node_count-n.ensures, c.if-n-t.false)
+bounds-plan-t c =
+    let r = impact-ready c.args.plan.now c.args.answers.now c.args.marks.now 0 0 _ _ c.node_count-n.ensures c.in_ok-fit.ensures refl in
+    omega (arith, r.accepted.even, c.node_count-n.ensures, c.if-n-t.false)
 
-pub returns-then-plan-t-ne1 : goal.returns-then-plan-t-ne1
-unfolding kind_byte
-returns-then-plan-t-ne1 c = impact-no-task c.args.plan.now c.args.answers.now c.args.marks.now c.args.task c.args.answer _ _ c.node_count-n.ensures c.fit-bad.ensures c.if-bad-ne0.false (omega (arith, c.if-n-t.false)) c.if-plan-t-ne1.true
+pub returns-then-ne : goal.returns-then-ne
+returns-then-ne c = impact-no-task _ _ _ _ _ _ _ c.node_count-n.ensures c.in_ok-fit.ensures refl (omega (arith, c.if-n-t.false))
+    (no-task _ _ _ c.from.ensures _ c.ne.ensures c.if-ne.true)
 
 pub change-requires : goal.change-requires
-change-requires c = (
-  impact-changeable c.args.plan.now c.args.answers.now c.args.marks.now c.args.task c.args.answer _ _ c.node_count-n.ensures c.fit-bad.ensures c.if-bad-ne0.false (omega (arith, c.if-n-t.false)),
-  (ready c.before.before.before.before.before).marks,
-)
+change-requires c =
+    let r = impact-ready c.args.plan.now c.args.answers.now c.args.marks.now 0 0 _ _ c.node_count-n.ensures c.in_ok-fit.ensures refl in
+    (impact-changeable c.args.plan.now c.args.answers.now c.args.marks.now c.args.task 0 _ _ c.node_count-n.ensures c.in_ok-fit.ensures refl (omega (arith, c.if-n-t.false)), r.marks)
 
 pub returns : goal.returns
-unfolding kind_byte
-returns c = impact-change c.args.plan.now c.args.answers.now c.args.marks.now c.args.task c.args.answer _ _ c.node_count-n.ensures c.fit-bad.ensures c.if-bad-ne0.false (omega (arith, c.if-n-t.false)) c.if-plan-t-ne1.false ∙ c.change.ensures
+returns c = impact-change _ _ _ _ _ _ _ c.node_count-n.ensures c.in_ok-fit.ensures refl (omega (arith, c.if-n-t.false))
+    (a-task _ _ _ c.from.ensures _ c.ne.ensures c.if-ne.false) ∙ c.change.ensures

@@ -10,4 +10,4 @@ returns-then-site-eq255 c = λ p home. rw c.if-site-eq255.true
 
 pub returns : goal.returns
 unfolding sited layout_by
-returns c = λ p home. rw (ne_eqb _ 255 c.if-site-eq255.false, c.via.ensures, c.wide.ensures)
+returns c = λ p home. rw (ne_eqb _ 255 c.if-site-eq255.false, c.via.ensures, c.from.ensures)

@@ -8,8 +8,8 @@ use Rattle.keeping.proofs.target.Goals as goal
 
 pub returns-then-site-eq255 : goal.returns-then-site-eq255
 unfolding target site_of layout_by
-returns-then-site-eq255 c = λ rows. c.via.ensures ∙ rw c.if-site-eq255.true (ap (via _) (c.wide.ensures ∙ c.host.ensures))
+returns-then-site-eq255 c = c.via.ensures ∙ rw c.if-site-eq255.true (ap (via _) (c.from.ensures ∙ c.host.ensures))
 
 pub returns : goal.returns
 unfolding target
-returns c = λ rows. c.via-2.ensures ∙ rw (ne_eqb _ 255 c.if-site-eq255.false)
+returns c = c.via-2.ensures ∙ rw (ne_eqb _ 255 c.if-site-eq255.false)

@@ -1,10 +1,10 @@
 -- The node's place decides. Assumes nothing.
-use mathlib.Core.Path.{sym, ◌∙◌}
-use Rattle.merge.proofs.FitLaws.{byte-placed}
+use Rattle.std.proofs.Common.{sym, ◌∙◌}
+use Rattle.merge.proofs.FitLaws.{byte-placed, xor-told, conditional-told}
 use Rattle.merge.proofs.byte_applies.Goals as goal
 
 pub returns : goal.returns
 returns c =
-    let s = c.before.before.before.before.before in
     c.byte_fits.ensures
-    ∙ rw (c.kind.ensures, c.above.ensures) (sym (byte-placed s.args.plan.now s.args.v s.args.b s.requires s.ranges.b.fits))
+    ∙ rw (xor-told _ c.eq-chosen.ensures, conditional-told _ c.eq-answers.ensures, c.kind_above.ensures, c.node_kind.ensures)
+    (sym (byte-placed c.args.plan.now c.args.v c.args.b c.requires c.ranges.b.fits))

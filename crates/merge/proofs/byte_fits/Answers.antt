@@ -1,5 +1,5 @@
 -- By the definition. Assumes nothing.
-use borrow.Author.Rules.{rules}
+use Rattle.std.proofs.Common.{rules}
 use Rattle.merge.specs.Bytes.{byte_fits}
 use Rattle.merge.proofs.byte_fits.Goals as goal
 

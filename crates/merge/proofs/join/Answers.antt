@@ -1,5 +1,4 @@
-use mathlib.Core.Path.{refl}
-use native.Mathlib.Omega.{arith}
+use Rattle.std.proofs.Common.{refl, arith}
 use Rattle.merge.proofs.JoinLaws.{join-none, join-turn, join-done, join-count}
 use Rattle.merge.proofs.join.Goals as goal
 

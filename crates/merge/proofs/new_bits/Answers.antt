@@ -1,5 +1,5 @@
 -- The bits of both, less those of the first. Assumes nothing.
-use native.Mathlib.Omega.{arith}
+use Rattle.std.proofs.Common.{arith}
 use Rattle.merge.proofs.ByteLaws.{new-small}
 use Rattle.merge.proofs.CountLaws.{new-bits, new-few}
 use Rattle.merge.proofs.new_bits.Goals as goal

@@ -1,8 +1,6 @@
-use mathlib.Core.Path.{sym, ◌∙◌}
-use native.Mathlib.Omega.{arith}
-use borrow.Author.Rules.{rules}
+use Rattle.std.proofs.Common.{sym, ◌∙◌, arith, rules}
 use Rattle.lists.specs.Seq.{all_below}
-use Rattle.merge.proofs.JoinLaws.{turn-and, turn-all}
+use Rattle.lists.proofs.Below.{below_more, below-stop, below_end}
 use Rattle.merge.proofs.FitLaws.{rows-apply}
 use Rattle.merge.proofs.rows_apply.Goals as goal
 
@@ -10,8 +8,11 @@ pub loop-v-init : goal.loop-v-init
 unfolding all_below
 loop-v-init c = search rules
 
+pub returns-then-not-byte_applies : goal.returns-then-not-byte_applies
+returns-then-not-byte_applies c = sym (rows-apply _ _ _ ∙ below-stop _ _ c.loop-v.v (omega arith) (sym c.byte_applies.ensures ∙ c.if-not-byte_applies.true))
+
 pub loop-v-preserved : goal.loop-v-preserved
-loop-v-preserved c = (search rules, turn-and _ _ _ _ c.loop-v.invariant.1 c.byte_applies-ok.ensures)
+loop-v-preserved c = below_more _ _ c.loop-v.invariant (sym c.byte_applies.ensures ∙ c.if-not-byte_applies.false)
 
 pub returns : goal.returns
-returns c = turn-all _ _ _ _ c.loop-v.invariant.1 c.loop-v.invariant.0 (omega arith) ∙ sym (rows-apply _ _ _)
+returns c = sym (rows-apply _ _ _ ∙ below_end _ _ _ c.loop-v.invariant (omega arith) (omega arith))

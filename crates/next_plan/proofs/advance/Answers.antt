@@ -1,50 +1,38 @@
-use native.Mathlib.Omega.{arith}
-use lib.ListN.{length}
-use Prim.Native.Nat.{suc, ◌-◌, ◌<◌}
-use borrow.Author.Rules.{rules}
-use Rattle.next_plan.proofs.LowerLaws.{Lowered, lowered-first, lowered-before, lowered-room, lowered-turn, raised, raised-fits, raised-found, lowered-done}
+use Rattle.std.proofs.Common.{◌≡◌, true, false, ◌&&◌, ltb, ℕ, ◌≤◌, ◌<◌, refl, arith}
+use borrow.Author.Tests.{lt-ltb, le-ltb}
+use Rattle.next_plan.proofs.LowerLaws.{lowered-first, lowered-before, lowered-room, lowered-turn, raised, raised-found, lowered-done}
 use Rattle.next_plan.proofs.advance.Goals as goal
-use Rattle.next_plan.proofs.advance.Lts
-use Rattle.next_plan.proofs.advance.Tie
-use Rattle.next_plan.proofs.advance.Reads
+use Rattle.next_plan.proofs.advance.Goals.{else-i-k-via-then-i-k+else-b-highest, else-i-k-via-else-i-k}
 
 pub loop-i-init : goal.loop-i-init
 loop-i-init c = lowered-first _ _ _
 
--- a turn, at the byte before place i
-turn : (c : Lts.In-loop Tie.the-claims Reads.Pre Reads.Post goal.the-invariant-loop-i goal.the-decreases-loop-i Tie.handed_clauses) →
-    Lowered (length c.args.q.now) c.args.k c.args.q.now c.loop-i.q (suc (c.loop-i.i - 1))
-turn c = lowered-before c.loop-i.i (omega (arith, c.loop-i-test.true)) c.loop-i.invariant
-
-short : (c : Lts.In-loop Tie.the-claims Reads.Pre Reads.Post goal.the-invariant-loop-i goal.the-decreases-loop-i Tie.handed_clauses) → c.loop-i.i - 1 < 12
-short c = omega (arith, (turn c).within, c.requires)
-
 pub bounds-q-i : goal.bounds-q-i
-bounds-q-i c = omega (arith, lowered-room _ _ _ _ _ (turn c.before.before))
+bounds-q-i c = omega (arith, lowered-room _ _ _ _ _ (lowered-before c.loop-i.i (omega (arith, c.loop-i-test.true)) c.loop-i.invariant))
 
-pub highest-requires : goal.highest-requires
-highest-requires c = omega (arith, short c.before.before)
+-- the test of a byte, by what it compares
+both : {i k b h : ℕ} → i < k → b < h → (ltb i k && ltb b h) ≡ true
+both l m = rw (lt-ltb _ _ l, lt-ltb _ _ m) refl
 
-pub overflow_add-q : goal.overflow_add-q
-overflow_add-q c = search (rules, raised-fits _ _ _ _ _ c.highest.ensures (short c.before.before.before) c.if-i-k.true)
+too-high : {i k b h : ℕ} → i < k → h ≤ b → (ltb i k && ltb b h) ≡ false
+too-high l m = rw (lt-ltb _ _ l, le-ltb _ _ m) refl
 
-pub bounds-q-i-then-i-k : goal.bounds-q-i-then-i-k
-bounds-q-i-then-i-k c = omega (arith, lowered-room _ _ _ _ _ (turn c.before.before.before))
+behind : {i k : ℕ} (b h : ℕ) → k ≤ i → (ltb i k && ltb b h) ≡ false
+behind b h l = rw (le-ltb _ _ l) refl
 
-pub shape_of-q-then-i-k : goal.shape_of-q-then-i-k
-shape_of-q-then-i-k c = search (rules, (turn c.before.before.before).long)
-
-pub returns-then-i-k : goal.returns-then-i-k
-returns-then-i-k c = let r = raised-found _ _ _ _ (raised _ _ _ _ _ (turn c.before.before.before) (rw (← c.highest.ensures) c.if-i-k.true)) in record { value = r.0; q_after = r.1 }
-
-pub bounds-q-i-in-loop-i : goal.bounds-q-i-in-loop-i
-bounds-q-i-in-loop-i c = omega (arith, lowered-room _ _ _ _ _ (turn c.before.before.before.before))
+pub returns-then-b-highest : goal.returns-then-b-highest
+returns-then-b-highest c =
+    let h = lowered-before c.loop-i.i (omega (arith, c.loop-i-test.true)) c.loop-i.invariant in
+    let r = raised-found _ _ _ _ (raised _ _ _ _ _ h (rw c.highest.ensures at (both c.if-i-k.true c.if-b-highest.true))) in
+    record { value = r.0; q_after = r.1 }
 
 pub loop-i-preserved : goal.loop-i-preserved
-loop-i-preserved c = rw c.lowest.ensures (lowered-turn _ _ _ _ _ (turn c.before.before.before.before) (rw (← c.highest.ensures) c.if-i-k.false))
-
-pub shape_of-q : goal.shape_of-q
-shape_of-q c = search (rules, c.loop-i.invariant.long)
+loop-i-preserved c =
+    let h = lowered-before c.loop-i.i (omega (arith, c.loop-i-test.true)) c.loop-i.invariant in
+    rw c.lowest.ensures (lowered-turn _ _ _ _ _ h (elim c.else-i-k.branch [
+      | else-i-k-via-then-i-k+else-b-highest w ↦ rw w.highest.ensures at (too-high w.if-i-k.true w.if-b-highest.false)
+      | else-i-k-via-else-i-k w ↦ behind _ _ w.if-i-k.false
+    ]))
 
 pub returns : goal.returns
 returns c = let r = lowered-done _ _ _ _ _ c.loop-i.invariant (omega (arith, c.loop-i-test.false)) in record { value = r.0; q_after = r.1 }

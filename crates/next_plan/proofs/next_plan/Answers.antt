@@ -1,50 +1,54 @@
 -- The tests in turn; the search works in a local array, and what it finds is copied out. Assumes nothing.
-use mathlib.Core.Path.{◌≡◌}
-use Prim.Native.Nat.{◌≤◌}
-use native.Mathlib.Omega.{arith}
-use lib.ListN.{length, take}
-use borrow.Author.Rules.{rules}
-use Rattle.small_plans.specs.Claim.{Small}
+use Rattle.std.proofs.Common.{◌≡◌, ◌++◌, ℕ, Option, Some, None, Ok, Err, length, drop, replicate, refl, ap, ◌∙◌}
+use Rattle.std.specs.Option.{ok_or}
+use Rattle.fault.specs.declared.Fault.{Fault}
+use Rattle.fault.specs.Number.{fault_number}
+use Rattle.fault.proofs.Laws.{fault-some, handed_on, handed_on-value}
 use Rattle.small_plans.proofs.CallLaws.{by-plan}
-use Rattle.next_plan.proofs.CallLaws.{too_large, small-plan, copied-ready, found_none, found-lent, found-long, found-done}
+use Rattle.next_plan.proofs.CallLaws.{too_large, small-plan, copied-ready, found_none, found-lent, found-done}
 use Rattle.next_plan.proofs.next_plan.Goals as goal
-use Rattle.next_plan.proofs.next_plan.Lts
-use Rattle.next_plan.proofs.next_plan.Tie
-use Rattle.next_plan.proofs.next_plan.Reads
 
-pub returns-then-bad-ne0 : goal.returns-then-bad-ne0
-returns-then-bad-ne0 c = by-plan _ _ _ c.check-bad.ensures c.if-bad-ne0.true
+pub returns-in_err-check : goal.returns-in_err-check
+returns-in_err-check c =
+    let e = c.from_residual.ensures.1 in
+    rw (handed_on _ _ e, handed_on-value _ _ e) (by-plan _ _ _ c.in_err-check.ensures (fault-some _))
 
 pub returns-then-n-gt10 : goal.returns-then-n-gt10
-returns-then-n-gt10 c = too_large _ _ c.check-bad.ensures c.if-bad-ne0.false c.if-n-gt10.true _
+returns-then-n-gt10 c = too_large _ _ c.in_ok-check.ensures refl c.if-n-gt10.true _
 
--- what the tests told
-few : (c : Lts.Else2 Tie.the-claims Reads.Pre Reads.Post) → length c.args.plan.now ≤ 10
-few c = omega (arith, c.if-n-gt10.false)
+pub search-requires : goal.search-requires
+search-requires c =
+    let s = small-plan _ _ c.in_ok-check.ensures refl c.if-n-gt10.false in
+    let z = ap (λ t. t ++ drop (length c.args.plan.now) (replicate 12 0)) c.copy_from_slice.ensures.after in
+    copied-ready _ _ s c.if-n-gt10.false z
 
-small : (c : Lts.Else2 Tie.the-claims Reads.Pre Reads.Post) → Small c.args.plan.now
-small c = small-plan _ _ c.check-bad.ensures c.if-bad-ne0.false (few c)
+-- what was searched for, by the answer that it was turned into
+was_none : (o : Option ℕ) (f e : Fault) → Err e ≡ ok_or o f → (o ≡ None) × (e ≡ f)
+was_none None f e h = (refl, cc)
+was_none (Some m) f e h = (cc, cc)
 
-pub search-m-requires : goal.search-m-requires
-search-m-requires c = copied-ready _ _ (small c.before.before.before.before.before) (few c.before.before.before.before.before) c.copy.ensures
+was_some : (o : Option ℕ) (f : Fault) (m : ℕ) → Ok m ≡ ok_or o f → o ≡ Some m
+was_some None f m h = cc
+was_some (Some n) f m h = cc
 
-pub returns-then-m-gt10 : goal.returns-then-m-gt10
-returns-then-m-gt10 c = found_none _ _ (small c.before.before.before.before.before.before.before.before) (few c.before.before.before.before.before.before.before.before) c.copy.ensures _ c.search-m.result c.search-m.ensures _ c.if-m-gt10.true
+pub returns-in_err-m : goal.returns-in_err-m
+returns-in_err-m c =
+    let e = c.from_residual-in_err-m.ensures.1 in
+    let s = small-plan _ _ c.in_ok-check.ensures refl c.if-n-gt10.false in
+    let z = ap (λ t. t ++ drop (length c.args.plan.now) (replicate 12 0)) c.copy_from_slice.ensures.after in
+    let o = was_none _ _ _ c.in_err-m.ensures.value in
+    rw (handed_on _ _ e ∙ ap fault_number o.1, handed_on-value _ _ e) (found_none _ _ s c.if-n-gt10.false z c.search.new.q (rw o.0 at c.search.ensures) _)
 
 pub returns-then-out-ne10 : goal.returns-then-out-ne10
-returns-then-out-ne10 c = found-lent _ _ (small c.before.before.before.before.before.before.before.before.before) (few c.before.before.before.before.before.before.before.before.before) c.copy.ensures _ c.search-m.result c.search-m.ensures _ (omega (arith, c.if-m-gt10.false)) c.if-out-ne10.true
-
-long : (c : Lts.After-search Tie.the-claims Reads.Pre Reads.Post) → length c.search-m.new.q ≡ 12
-long c = search rules
-
-found : (c : Lts.Else4 Tie.the-claims Reads.Pre Reads.Post) → c.search-m.result ≡ length (take c.search-m.result c.search-m.new.q)
-found c = found-long _ _ (small c.before.before.before.before.before.before.before.before) (few c.before.before.before.before.before.before.before.before) c.copy.ensures _ c.search-m.result c.search-m.ensures c.args.out.now (omega (arith, c.if-m-gt10.false)) (long c.before.before.before)
-
-pub slice_bounds-copy-end-2 : goal.slice_bounds-copy-end-2
-slice_bounds-copy-end-2 c = found c.before.before
-
-pub copy-requires-2 : goal.copy-requires-2
-copy-requires-2 c = omega (arith, found c.before.before.before, c.if-m-gt10.false, c.if-out-ne10.false)
+returns-then-out-ne10 c =
+    let s = small-plan _ _ c.in_ok-check.ensures refl c.if-n-gt10.false in
+    let z = ap (λ t. t ++ drop (length c.args.plan.now) (replicate 12 0)) c.copy_from_slice.ensures.after in
+    found-lent _ _ s c.if-n-gt10.false z _ _ (rw (was_some _ _ _ c.in_ok-m.ensures.value) at c.search.ensures) _ c.if-out-ne10.true
 
 pub returns : goal.returns
-returns c = found-done _ _ (small c.before.before.before.before.before.before.before.before.before.before.before.before.before.before) (few c.before.before.before.before.before.before.before.before.before.before.before.before.before.before) c.copy.ensures _ c.search-m.result c.search-m.ensures _ (omega (arith, c.if-m-gt10.false)) (long c.before.before.before.before.before.before.before.before.before) c.if-out-ne10.false _ c.copy-2.ensures
+returns c =
+    let s = small-plan _ _ c.in_ok-check.ensures refl c.if-n-gt10.false in
+    let z = ap (λ t. t ++ drop (length c.args.plan.now) (replicate 12 0)) c.copy_from_slice.ensures.after in
+    let long = c.search.auto.q ∙ (copied-ready _ _ s c.if-n-gt10.false z).0 in
+    found-done _ _ s c.if-n-gt10.false z _ _ (rw (was_some _ _ _ c.in_ok-m.ensures.value) at c.search.ensures) _ long c.if-out-ne10.false _
+    (ap (λ t. t ++ drop c.in_ok-m.m c.args.out.now) c.copy_from_slice-2.ensures.after)

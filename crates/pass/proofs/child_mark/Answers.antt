@@ -1,20 +1,18 @@
--- A child's mark, by how it ended. Assumes nothing.
-use native.Mathlib.Omega.{arith}
-use borrow.Author.Tests.{eq-eqb, ne_eqb}
-use Rattle.pass.proofs.TableLaws.{mark-down, mark-picked, mark-plain, mark-broke, mark-fault}
+-- By how the child ended, and in an xor by its place. Assumes nothing.
+use Rattle.pass.specs.Pass.{child_mark}
+use Rattle.pass.specs.Values.{outcome_of}
+use Rattle.pass.proofs.TableLaws.{mark-picked, mark-down, mark-plain}
 use Rattle.pass.proofs.child_mark.Goals as goal
-use Rattle.pass.proofs.child_mark.Goals.{else-kind-eq5-via-then-kind-eq5+else-places-answer, else-kind-eq5-via-else-kind-eq5}
+
+pub returns-in-Breaks : goal.returns-in-Breaks
+unfolding child_mark outcome_of
+returns-in-Breaks c = rw c.in-Breaks.is
 
 pub returns-then-places-answer : goal.returns-then-places-answer
-returns-then-places-answer c = mark-down _ _ _ _ c.in-3.is c.if-kind-eq5.true (rw (ne_eqb _ _ c.if-places-answer.true))
+returns-then-places-answer c = rw (c.in-Works.is, c.in-Xor.is) (mark-picked _ _ c.if-places-answer.true)
 
-pub returns-else-kind-eq5 : goal.returns-else-kind-eq5
-returns-else-kind-eq5 c =
-    let e = c.in-3.is in
-    elim c.else-kind-eq5.branch [ else-kind-eq5-via-then-kind-eq5+else-places-answer w ↦ mark-picked _ _ _ _ e (rw (eq-eqb _ _ w.if-places-answer.false)) | else-kind-eq5-via-else-kind-eq5 w ↦ mark-plain _ _ _ _ e w.if-kind-eq5.false ]
-
-pub returns-in-4 : goal.returns-in-4
-returns-in-4 c = mark-broke _ _ _ _ c.in-4.is
+pub returns-else-places-answer : goal.returns-else-places-answer
+returns-else-places-answer c = rw (c.in-Works.is, c.in-Xor.is) (mark-down _ _ c.if-places-answer.false)
 
 pub returns-in_default : goal.returns-in_default
-returns-in_default c = mark-fault _ _ _ _ (λ e. omega arith) (λ e. omega arith)
+returns-in_default c = rw c.in-Works.is (mark-plain _ _ _ c.in_default.not-Xor)

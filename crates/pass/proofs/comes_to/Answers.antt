@@ -1,20 +1,18 @@
--- Assumes nothing.
-use borrow.Author.Tests.{eq-eqb, ne_eqb}
+-- By the child's mark and the state before. Assumes nothing.
+use Rattle.std.proofs.Common.{sym, ◌∙◌}
 use Rattle.pass.specs.Values.{comes_to}
+use Rattle.pass.proofs.TableLaws.{comes-down, comes-same, comes-other}
 use Rattle.pass.proofs.comes_to.Goals as goal
 
-pub returns-then-state-eq4 : goal.returns-then-state-eq4
+pub returns-in-Failed : goal.returns-in-Failed
 unfolding comes_to
-returns-then-state-eq4 c = rw (eq-eqb _ _ c.if-mark-eq5.true, eq-eqb _ _ c.if-state-eq4.true)
+returns-in-Failed c = rw (c.in-TurnedDown.is, c.in-Failed.is)
 
-pub returns-then-mark-eq5 : goal.returns-then-mark-eq5
-unfolding comes_to
-returns-then-mark-eq5 c = rw (eq-eqb _ _ c.if-mark-eq5.true, ne_eqb _ _ c.if-state-eq4.false)
+pub returns-in_default-state : goal.returns-in_default-state
+returns-in_default-state c = rw c.in-TurnedDown.is (comes-down _ _ c.in_default-state.not-Failed)
 
-pub returns-then-mark-start : goal.returns-then-mark-start
-unfolding comes_to
-returns-then-mark-start c = rw (ne_eqb _ _ c.if-mark-eq5.false, eq-eqb _ _ c.if-mark-start.true)
+pub returns-then-eq : goal.returns-then-eq
+returns-then-eq c = comes-same _ _ _ c.in_default.not-TurnedDown (sym c.eq.ensures ∙ c.if-eq.true)
 
-pub returns : goal.returns
-unfolding comes_to
-returns c = rw (ne_eqb _ _ c.if-mark-eq5.false, ne_eqb _ _ c.if-mark-start.false)
+pub returns-else-eq : goal.returns-else-eq
+returns-else-eq c = comes-other _ _ _ c.in_default.not-TurnedDown (sym c.eq.ensures ∙ c.if-eq.false)

@@ -1,16 +1,18 @@
--- By the kind's byte. Assumes nothing.
-use native.Mathlib.Omega.{arith}
-use Rattle.pass.proofs.TableLaws.{done-serial, done-contingency, done-conditional, done-never}
+-- By the kind. Assumes nothing.
+use Rattle.plan.specs.Plan.{kind_number, is_kind}
+use Rattle.pass.specs.Values.{done_by}
+use Rattle.pass.proofs.TableLaws.{done-serial, done-contingency, done-never}
 use Rattle.pass.proofs.done.Goals as goal
 
-pub returns-in-2 : goal.returns-in-2
-returns-in-2 c = done-serial _ _ _ c.in-2.is
+pub returns-in-Serial : goal.returns-in-Serial
+returns-in-Serial c = rw c.in-Serial.is (done-serial _ _ _ c.eq.ensures)
 
-pub returns-in-6 : goal.returns-in-6
-returns-in-6 c = done-contingency _ _ _ c.in-6.is
+pub returns-in-Contingency : goal.returns-in-Contingency
+returns-in-Contingency c = rw c.in-Contingency.is (done-contingency _ _ _ c.eq-in-Contingency.ensures)
 
-pub returns-in-7 : goal.returns-in-7
-returns-in-7 c = done-conditional _ _ _ c.in-7.is
+pub returns-in-Conditional : goal.returns-in-Conditional
+unfolding done_by is_kind kind_number
+returns-in-Conditional c = rw c.in-Conditional.is
 
 pub returns-in_default : goal.returns-in_default
-returns-in_default c = done-never _ _ _ (λ e. omega arith) (λ e. omega arith) (λ e. omega arith)
+returns-in_default c = done-never _ _ _ c.in_default.not-Serial c.in_default.not-Contingency c.in_default.not-Conditional

@@ -1,17 +1,18 @@
 -- An xor's own fault, or the state. Assumes nothing.
-use mathlib.Core.Bool.{and-false}
-use borrow.Author.Tests.{ne_eqb}
-use Rattle.pass.proofs.TableLaws.{ends-plain, ends-picked, ends-empty, ends-wrong}
+use Rattle.std.proofs.Common.{inl, inr, sym, ◌∙◌}
+use Rattle.pass.proofs.TableLaws.{xor-told, ends-picked, ends-empty, ends-wrong, ends-down}
 use Rattle.pass.proofs.ends_as.Goals as goal
-use Rattle.pass.proofs.ends_as.Goals.{then-kind-ne5-via-then-kind-ne5, then-kind-ne5-via-else-kind-ne5+then-state-eq3, else-state-eq4-via-then-state-eq4+else-answer-eq0, else-state-eq4-via-else-state-eq4}
+use Rattle.pass.proofs.ends_as.Goals.{else-eq-via-then-eq+else-answer-ne0, else-eq-via-else-eq}
 
-pub returns-then-kind-ne5 : goal.returns-then-kind-ne5
-returns-then-kind-ne5 c =
-    elim c.then-kind-ne5.branch [ then-kind-ne5-via-then-kind-ne5 w ↦ ends-plain _ _ _ w.if-kind-ne5.true | then-kind-ne5-via-else-kind-ne5+then-state-eq3 w ↦ ends-picked _ _ _ w.if-state-eq3.true ]
+pub returns-in-Committed-clause-value : goal.returns-in-Committed-clause-value
+returns-in-Committed-clause-value c = rw c.in-Committed.is (ends-picked _ _)
 
-pub returns-then-answer-eq0 : goal.returns-then-answer-eq0
-returns-then-answer-eq0 c = ends-empty _ _ _ c.if-kind-ne5.false c.if-state-eq3.false c.if-state-eq4.true c.if-answer-eq0.true
+pub returns-then-answer-ne0-clause-value : goal.returns-then-answer-ne0-clause-value
+returns-then-answer-ne0-clause-value c = rw c.in-Failed.is (ends-wrong _ _ (sym (xor-told _ _ c.eq.ensures) ∙ c.if-eq.true) c.if-answer-ne0.true)
 
-pub returns : goal.returns
-returns c = ends-wrong _ _ _ c.if-kind-ne5.false c.if-state-eq3.false
-    (elim c.else-state-eq4.branch [ else-state-eq4-via-then-state-eq4+else-answer-eq0 w ↦ rw (ne_eqb _ _ w.if-answer-eq0.false, and-false) | else-state-eq4-via-else-state-eq4 w ↦ rw (ne_eqb _ _ w.if-state-eq4.false) ])
+pub returns-else-eq-clause-value : goal.returns-else-eq-clause-value
+returns-else-eq-clause-value c = rw c.in-Failed.is (ends-empty _ _
+    (elim c.else-eq.branch [ else-eq-via-then-eq+else-answer-ne0 w ↦ inr w.if-answer-ne0.false | else-eq-via-else-eq w ↦ inl (sym (xor-told _ _ c.eq.ensures) ∙ w.if-eq.false) ]))
+
+pub returns-in-TurnedDown-clause-value : goal.returns-in-TurnedDown-clause-value
+returns-in-TurnedDown-clause-value c = rw c.in-TurnedDown.is (ends-down _ _ (c.requires c.in-TurnedDown.is))

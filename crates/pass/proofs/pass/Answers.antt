@@ -1,9 +1,11 @@
 -- The tests; what passes them is ready. Assumes nothing.
+use Rattle.std.proofs.Common.{refl}
+use Rattle.fault.proofs.Laws.{fault-some, handed_on}
 use Rattle.pass.proofs.PassLaws.{into-refused, into-ready}
 use Rattle.pass.proofs.pass.Goals as goal
 
-pub returns-then-bad-ne0 : goal.returns-then-bad-ne0
-returns-then-bad-ne0 c = into-refused _ _ _ _ _ c.node_count-n.ensures c.fit-bad.ensures c.if-bad-ne0.true
+pub returns-in_err-fit : goal.returns-in_err-fit
+returns-in_err-fit c = rw (handed_on _ _ c.from_residual.ensures.1) (into-refused _ _ _ _ _ c.node_count-n.ensures c.in_err-fit.ensures (fault-some _))
 
 pub settle_all-requires : goal.settle_all-requires
-settle_all-requires c = into-ready _ _ _ _ _ c.node_count-n.ensures c.fit-bad.ensures c.if-bad-ne0.false
+settle_all-requires c = into-ready _ _ _ _ _ c.node_count-n.ensures c.in_ok-fit.ensures refl

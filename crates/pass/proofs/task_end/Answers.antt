@@ -1,16 +1,15 @@
--- Assumes nothing.
-use borrow.Author.Tests.{eq-eqb, ne_eqb}
+use Rattle.std.proofs.Common.{ne_eqb, arith}
 use Rattle.pass.specs.Values.{task_end}
 use Rattle.pass.proofs.task_end.Goals as goal
 
-pub returns-then-answer-eq1 : goal.returns-then-answer-eq1
+pub returns-in-1-clause-value : goal.returns-in-1-clause-value
 unfolding task_end
-returns-then-answer-eq1 c = rw (eq-eqb _ _ c.if-answer-eq1.true)
+returns-in-1-clause-value c = rw c.in-1.is
 
-pub returns-then-answer-eq2 : goal.returns-then-answer-eq2
+pub returns-in-2-clause-value : goal.returns-in-2-clause-value
 unfolding task_end
-returns-then-answer-eq2 c = rw (ne_eqb _ _ c.if-answer-eq1.false, eq-eqb _ _ c.if-answer-eq2.true)
+returns-in-2-clause-value c = rw c.in-2.is
 
-pub returns : goal.returns
+pub returns-in_default-clause-value : goal.returns-in_default-clause-value
 unfolding task_end
-returns c = rw (ne_eqb _ _ c.if-answer-eq1.false, ne_eqb _ _ c.if-answer-eq2.false)
+returns-in_default-clause-value c = rw (ne_eqb c.args.answer 1 (λ e. omega arith), ne_eqb c.args.answer 2 (λ e. omega arith))

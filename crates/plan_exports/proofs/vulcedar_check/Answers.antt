@@ -1,7 +1,7 @@
 -- Assumes nothing.
-use mathlib.Core.Path.{ap, ◌∙◌}
+use Rattle.std.proofs.Common.{ap, ◌∙◌}
 use Rattle.results.specs.Result.{result_of}
 use Rattle.plan_exports.proofs.vulcedar_check.Goals as goal
 
 pub returns : goal.returns
-returns c = c.packed.ensures ∙ ap (λ n. result_of n 0 0) c.check.ensures
+returns c = c.of_done.ensures ∙ ap (λ n. result_of n 0 0) c.check.ensures

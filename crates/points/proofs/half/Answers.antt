@@ -5,4 +5,4 @@ use Rattle.points.proofs.half.Goals as goal
 
 pub returns : goal.returns
 unfolding half_at
-returns c = (rw (c.wide-3.ensures.0, c.wide-4.ensures.0, c.wide.ensures.0, c.wide-2.ensures.0), omega arith)
+returns c = (rw (c.from-3.ensures, c.from-4.ensures, c.from.ensures, c.from-2.ensures), omega arith)

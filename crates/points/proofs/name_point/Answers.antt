@@ -1,21 +1,9 @@
 -- Three tests; then the name's own slot, or the first free one. Assumes nothing.
-use mathlib.Core.Path.{◌≡◌, sym, ◌∙◌}
-use mathlib.Core.Bool.{true}
-use native.Mathlib.Omega.{arith}
-use lib.ListN.{length}
-use Rattle.points.specs.Points.{name_fits}
+use Rattle.std.proofs.Common.{sym, ◌∙◌, ap, arith}
+use Rattle.points.specs.Points.{slot_number}
+use Rattle.points.proofs.FirstLaws.{free-position}
 use Rattle.points.proofs.NamingLaws.{fit-long, name-long, name-far, name-unfit, name-fits, name-known, name-full, name_new}
 use Rattle.points.proofs.name_point.Goals as goal
-use Rattle.points.proofs.name_point.Lts
-use Rattle.points.proofs.name_point.Tie
-use Rattle.points.proofs.name_point.Reads
-
--- behind the three tests
-longs : (c : Lts.Else3 Tie.the-claims Reads.Pre Reads.Post) → let a = c.args in (length a.names.now ≡ 128) × (length a.places.now ≡ 16)
-longs c = fit-long _ _ _ (sym c.points_fit.ensures ∙ c.if-not-points_fit.false)
-
-fits : (c : Lts.Else3 Tie.the-claims Reads.Pre Reads.Post) → let a = c.args in name_fits a.name.now a.count a.names.now a.places.now ≡ true
-fits c = name-fits _ _ _ _ c.if-name-ne8.false c.if-count-eq18446744073709551615.false (omega arith) (sym c.points_fit.ensures ∙ c.if-not-points_fit.false)
 
 pub returns-then-name-ne8 : goal.returns-then-name-ne8
 returns-then-name-ne8 c = name-long _ _ _ _ c.if-name-ne8.true
@@ -26,26 +14,36 @@ returns-then-count-eq18446744073709551615 c = name-far _ _ _ _ c.if-name-ne8.fal
 pub returns-then-not-points_fit : goal.returns-then-not-points_fit
 returns-then-not-points_fit c = name-unfit _ _ _ _ c.if-name-ne8.false (sym c.points_fit.ensures ∙ c.if-not-points_fit.true)
 
-pub slot_of-known-requires : goal.slot_of-known-requires
-slot_of-known-requires c = let e = c.before in ((longs e).0, (longs e).1, e.if-name-ne8.false)
+pub slot_of-requires : goal.slot_of-requires
+slot_of-requires c = let l = fit-long _ _ _ (sym c.points_fit.ensures ∙ c.if-not-points_fit.false) in (l.0, l.1, c.if-name-ne8.false)
 
 pub bounds-places-known : goal.bounds-places-known
-bounds-places-known c = omega (arith, c.if-known-lt16.true, (longs c.before.before.before).1)
+bounds-places-known c = let l = fit-long _ _ _ (sym c.points_fit.ensures ∙ c.if-not-points_fit.false) in rw l.1 c.in-Some.ensures.within
 
-pub returns-then-known-lt16 : goal.returns-then-known-lt16
-returns-then-known-lt16 c = name-known _ _ _ _ (fits c.before.before.before) _ c.slot_of-known.ensures.0 (omega (arith, c.if-known-lt16.true))
+pub returns-in-Some : goal.returns-in-Some
+returns-in-Some c =
+    let fit = name-fits _ _ _ _ c.if-name-ne8.false c.if-count-eq18446744073709551615.false c.ranges.count.fits (sym c.points_fit.ensures ∙ c.if-not-points_fit.false) in
+    name-known _ _ _ _ fit _ c.in-Some.ensures.value c.in-Some.ensures.within
 
-pub free_slot-free-requires : goal.free_slot-free-requires
-free_slot-free-requires c = (longs c.before.before.before).1
+pub free_slot-requires : goal.free_slot-requires
+free_slot-requires c = let l = fit-long _ _ _ (sym c.points_fit.ensures ∙ c.if-not-points_fit.false) in l.1
 
-pub returns-then-free-eq16 : goal.returns-then-free-eq16
-returns-then-free-eq16 c = name-full _ _ _ _ (fits c.before.before.before.before.before) _ c.slot_of-known.ensures.0 c.if-known-lt16.false _ c.free_slot-free.ensures.0 c.if-free-eq16.true
+pub returns-in_default-free_slot : goal.returns-in_default-free_slot
+returns-in_default-free_slot c =
+    let right = sym c.points_fit.ensures ∙ c.if-not-points_fit.false in
+    let fit = name-fits _ _ _ _ c.if-name-ne8.false c.if-count-eq18446744073709551615.false c.ranges.count.fits right in
+    let long = fit-long _ _ _ right in
+    name-full _ _ _ _ fit _ c.in_default.ensures.value (omega arith) _ (ap slot_number c.in_default-free_slot.ensures.first ∙ free-position _ long.1) (omega arith)
 
 pub put_name-requires : goal.put_name-requires
-put_name-requires c = let e = c.before.before.before.before.before.before in ((longs e).0, omega (arith, c.if-free-eq16.false, c.free_slot-free.ensures.1), e.if-name-ne8.false)
+put_name-requires c = let l = fit-long _ _ _ (sym c.points_fit.ensures ∙ c.if-not-points_fit.false) in (l.0, c.in-Some-free_slot.ensures.within, c.if-name-ne8.false)
 
 pub bounds-places-free : goal.bounds-places-free
-bounds-places-free c = omega (arith, c.if-free-eq16.false, c.free_slot-free.ensures.1, (longs c.before.before.before.before.before.before.before.before.before).1)
+bounds-places-free c = let l = fit-long _ _ _ (sym c.points_fit.ensures ∙ c.if-not-points_fit.false) in rw l.1 c.in-Some-free_slot.ensures.within
 
 pub returns : goal.returns
-returns c = name_new _ _ _ _ (fits c.before.before.before.before.before.before.before.before.before) _ c.slot_of-known.ensures.0 c.if-known-lt16.false _ c.free_slot-free.ensures.0 (omega (arith, c.if-free-eq16.false, c.free_slot-free.ensures.1)) _ c.put_name.ensures
+returns c =
+    let right = sym c.points_fit.ensures ∙ c.if-not-points_fit.false in
+    let fit = name-fits _ _ _ _ c.if-name-ne8.false c.if-count-eq18446744073709551615.false c.ranges.count.fits right in
+    let long = fit-long _ _ _ right in
+    name_new _ _ _ _ fit _ c.in_default.ensures.value (omega arith) _ (ap slot_number c.in-Some-free_slot.ensures.first ∙ free-position _ long.1) c.in-Some-free_slot.ensures.within _ c.put_name.ensures

@@ -6,6 +6,3 @@ use Rattle.points.proofs.slot_of.Given as goal
 
 abbrev pub invariant-loop-i : goal.invariant-loop-i
 invariant-loop-i l = (l.i ≤ 16) × (first_slot (has_name l.names l.places l.name) (16 - l.i) l.i ≡ slot_of l.names l.places l.name)
-
-abbrev pub decreases-loop-i : goal.decreases-loop-i
-decreases-loop-i l = 16 - l.i

@@ -1,10 +1,6 @@
 -- The slots before i fit. Assumes nothing.
-use Prim.Native.Nat.{◌-◌}
 use Rattle.points.proofs.FitLaws.{Fitting}
 use Rattle.points.proofs.slots_fit.Given as goal
 
 abbrev pub invariant-loop-i : goal.invariant-loop-i
 invariant-loop-i l = Fitting l.names l.places l.count l.i
-
-abbrev pub decreases-loop-i : goal.decreases-loop-i
-decreases-loop-i l = 16 - l.i

@@ -8,10 +8,10 @@ use Rattle.placing.proofs.PlaceLaws.{Walking}
 use Rattle.repeat.proofs.+place_repeated.Given as goal
 
 abbrev pub decreases-place_repeated : goal.decreases-place_repeated
-decreases-place_repeated l = size l.plan.now - l.v
+decreases-place_repeated l = size l.of.plan.now - l.v
 
 abbrev pub invariant-loop-c : goal.invariant-loop-c
-invariant-loop-c l = Walking l.plan (repeated_below l.plan l.m l.count) l.initial.out l.v l.n l.out l.w l.c
+invariant-loop-c l = Walking l.of.plan.now (repeated_below l.of.plan.now l.of.marked l.of.times) l.initial.out l.v l.n l.out l.w l.c
 
 abbrev pub decreases-loop-c : goal.decreases-loop-c
-decreases-loop-c l = length (led_to l.plan l.v l.c)
+decreases-loop-c l = length (led_to l.of.plan.now l.v l.c)

@@ -8,8 +8,8 @@ use Rattle.retention.proofs.check_table.Goals as goal
 pub returns-then-table-ne12 : goal.returns-then-table-ne12
 returns-then-table-ne12 c = table-long _ c.if-table-ne12.true
 
-pub returns-then-byte_at-ne0 : goal.returns-then-byte_at-ne0
-returns-then-byte_at-ne0 c = table-first _ _ c.byte_at.ensures c.if-byte_at-ne0.true
+pub returns-then-table-ne0 : goal.returns-then-table-ne0
+returns-then-table-ne0 c = table-first _ c.if-table-ne0.true
 
 pub loop-i-init : goal.loop-i-init
 unfolding all_below
@@ -24,4 +24,4 @@ loop-i-preserved c = (omega arith, below_more _ _ c.loop-i.invariant.1 (sym c.fr
 pub returns : goal.returns
 returns c =
     let d = c.before.before.before in
-    table-right _ d.if-table-ne12.false _ d.byte_at.ensures d.if-byte_at-ne0.false (below_end _ 6 _ c.loop-i.invariant.1 c.loop-i.invariant.0 (omega arith))
+    table-right _ d.if-table-ne12.false d.if-table-ne0.false (below_end _ 6 _ c.loop-i.invariant.1 c.loop-i.invariant.0 (omega arith))

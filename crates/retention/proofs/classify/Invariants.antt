@@ -1,5 +1,4 @@
 -- The classes below v are written so far. Assumes nothing.
-use Prim.Native.Nat.{◌-◌}
 use Rattle.lists.proofs.Filling.{Filling}
 use Rattle.plan.specs.Plan.{size}
 use Rattle.retention.specs.Record.{class}
@@ -7,6 +6,3 @@ use Rattle.retention.proofs.classify.Given as goal
 
 abbrev pub invariant-loop-v : goal.invariant-loop-v
 invariant-loop-v l = Filling (class l.plan l.table l.marks) (size l.plan) l.out l.v
-
-abbrev pub decreases-loop-v : goal.decreases-loop-v
-decreases-loop-v l = l.n - l.v

@@ -4,7 +4,7 @@ use Rattle.retention.proofs.AboveLaws.{counts-plain, counts-committed}
 use Rattle.retention.proofs.counts_as.Goals as goal
 
 pub returns-then-mark-ne3 : goal.returns-then-mark-ne3
-returns-then-mark-ne3 c = counts-plain _ _ _ _ _ c.wide.ensures c.byte_at-mark.ensures c.if-mark-ne3.true
+returns-then-mark-ne3 c = counts-plain _ _ _ _ _ c.from.ensures c.byte_at-mark.ensures c.if-mark-ne3.true
 
 pub returns : goal.returns
-returns c = c.counts_above.ensures ∙ counts-committed _ _ _ _ _ c.wide.ensures c.byte_at-mark.ensures c.if-mark-ne3.false
+returns c = c.counts_above.ensures ∙ counts-committed _ _ _ _ _ c.from.ensures c.byte_at-mark.ensures c.if-mark-ne3.false

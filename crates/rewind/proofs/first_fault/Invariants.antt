@@ -3,13 +3,9 @@ use mathlib.Core.Path.{◌≡◌}
 use mathlib.Core.List.{List}
 use Prim.Native.Nat.{ℕ, ◌-◌}
 use Rattle.layout.specs.Layout.{via, layout_by}
-use Rattle.rewind.specs.Arrays.{entries_of}
 use Rattle.rewind.specs.Rewound.{first_fault}
 use Rattle.rewind.proofs.first_fault.Given as goal
 
 abbrev pub invariant-loop-i : goal.invariant-loop-i
 invariant-loop-i l =
-    ((home : List ℕ) → first_fault l.plan (layout_by l.rows home) (via l.row) (entries_of l.entries) (l.i - l.place) l.i ≡ first_fault l.plan (layout_by l.rows home) (via l.row) (entries_of l.entries) (l.count - l.place) l.count)
-
-abbrev pub decreases-loop-i : goal.decreases-loop-i
-decreases-loop-i l = l.i - l.place
+    ((home : List ℕ) → first_fault l.lay.plan.now (layout_by l.lay.rows home) (via l.lay.row.now) l.entries (l.i - l.place) l.i ≡ first_fault l.lay.plan.now (layout_by l.lay.rows home) (via l.lay.row.now) l.entries (l.count - l.place) l.count)

@@ -1,19 +1,17 @@
 -- A look at the entries down to the place, and only then the clearing. Assumes nothing.
-use mathlib.Core.Path.{sym, ◌∙◌}
-use Rattle.rewind.proofs.ArrayLaws.{array-within}
+use Rattle.std.proofs.Common.{sym}
+use Rattle.fault.proofs.Laws.{fault-some, handed_on}
 use Rattle.rewind.proofs.CallLaws.{way-refused, way-done}
 use Rattle.rewind.proofs.return_to.Goals as goal
 
-pub first_fault-number-requires : goal.first_fault-number-requires
-first_fault-number-requires c = c.requires.laid.plan.few
+pub first_fault-requires : goal.first_fault-requires
+first_fault-requires c = (c.requires.laid.plan.few, c.requires.place_le_count.1)
 
-pub returns-then-number-ne0 : goal.returns-then-number-ne0
-returns-then-number-ne0 c = let s = c.before.before.before.before.before.before.before.before.before.before in
-    way-refused _ _ _ _ s.requires.laid _ _ (array-within s.args.entries.now _ s.requires.place_le_count.1) _ _ _ s.requires.place_le_count.0 _ (c.first_fault-number.ensures _) c.if-number-ne0.true
+pub returns-in_err-first_fault : goal.returns-in_err-first_fault
+returns-in_err-first_fault c = rw (handed_on _ _ c.from_residual.ensures.1) (way-refused _ _ _ _ c.requires.laid _ _ c.requires.place_le_count.1 _ _ _ c.requires.place_le_count.0 _ (c.in_err-first_fault.ensures _) (fault-some _))
 
 pub rewind-requires : goal.rewind-requires
-rewind-requires c = record { laid = c.requires.laid; count_value = sym (c.first_fault-number.ensures _) ∙ c.if-number-ne0.false }
+rewind-requires c = record { laid = c.requires.laid; count_in_bounds = c.requires.place_le_count.1; count_value = sym (c.in_ok-first_fault.ensures _) }
 
 pub returns : goal.returns
-returns c = let s = c.before.before.before.before.before.before.before.before.before.before.before.before.before.before.before.before.before.before.before.before.before in
-    way-done _ _ _ _ s.requires.laid _ _ (array-within s.args.entries.now _ s.requires.place_le_count.1) _ _ _ s.requires.place_le_count.0 (sym (c.first_fault-number.ensures _) ∙ c.if-number-ne0.false) _ c.rewind.ensures _ _ c.drop_past.ensures
+returns c = way-done _ _ _ _ c.requires.laid _ _ c.requires.place_le_count.1 _ _ _ c.requires.place_le_count.0 (sym (c.in_ok-first_fault.ensures _)) _ c.rewind.ensures _ _ c.drop_past.ensures

@@ -1,6 +1,5 @@
 -- The one event, then nothing more, or the family. Assumes nothing.
-use mathlib.Core.Path.{◌≡◌, sym, ◌∙◌}
-use mathlib.Core.Bool.{true}
+use Rattle.std.proofs.Common.{◌≡◌, sym, ◌∙◌, true}
 use Rattle.event.specs.Event.{code_of, event_of}
 use Rattle.guard.specs.Guard.{guard}
 use Rattle.guard.specs.Family.{named_nodes}

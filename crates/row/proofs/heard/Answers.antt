@@ -1,5 +1,5 @@
 -- The bit in the node's byte. Assumes nothing.
-use mathlib.Core.Path.{◌∙◌}
+use Rattle.std.proofs.Common.{◌∙◌}
 use Rattle.row.specs.Row.{heard_in}
 use Rattle.row.proofs.heard.Goals as goal
 

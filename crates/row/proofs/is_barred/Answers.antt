@@ -1,8 +1,5 @@
 -- One line of the table of bars for each arm. Assumes nothing.
-use mathlib.Core.Path.{◌≡◌, refl, sym, ◌∙◌}
-use mathlib.Core.List.{[], ◌∷◌}
-use native.Mathlib.Omega.{arith}
-use lib.ListN.{get_or}
+use Rattle.std.proofs.Common.{◌≡◌, refl, sym, ◌∙◌, [], ◌∷◌, arith, get_or}
 use Rattle.lists.specs.Seq.{any}
 use Rattle.event.specs.Event.{start, offer, commit, abort, code_number, code_of, is_code}
 use Rattle.event.specs.Bit.{has_bit}
@@ -17,7 +14,7 @@ use Rattle.row.proofs.is_barred.Reads
 
 -- the node's byte
 read : (c : Lts.After-byte_at Tie.the-claims Reads.Pre Reads.Post) → let a = c.args in c.byte_at-b.result ≡ get_or a.row.now a.v 0
-read c = c.byte_at-b.ensures ∙ rw c.wide.ensures
+read c = c.byte_at-b.ensures ∙ rw c.from.ensures
 
 pub returns-in-1 : goal.returns-in-1
 unfolding any has_bit is_code code_of code_number bars_by

@@ -1,5 +1,5 @@
 -- The record's marks and classes stand in the fronts of the two buffers. Assumes nothing.
-use mathlib.Core.Path.{◌∙◌}
+use Rattle.std.proofs.Common.{sym, ◌∙◌}
 use Prim.Native.Nat.{◌≤◌}
 use native.Mathlib.Omega.{arith}
 use Rattle.lists.proofs.Parts.{part_length, back_is, back-room, back-length}
@@ -10,14 +10,14 @@ use Rattle.script.proofs.put_record.Lts
 use Rattle.script.proofs.put_record.Tie
 use Rattle.script.proofs.put_record.Reads
 
-few : (c : Lts.After-node_buffer2 Tie.the-claims Reads.Pre Reads.Post Tie.handed_clauses) → c.node_count-n.result ≤ 160
+few : (c : Lts.After-zeros2 Tie.the-claims Reads.Pre Reads.Post Tie.handed_clauses) → c.node_count-n.result ≤ 160
 few c = omega (arith, c.node_count-n.ensures, plan-few _ c.requires.tab_value.1)
 
 told : (c : Lts.After-record_by Tie.the-claims Reads.Pre Reads.Post Tie.handed_clauses) →
-    RecordTold c.args.plan.now c.args.tab.now c.args.state.now c.node_count-n.result c.node_buffer-marks.result c.node_buffer-classes.result c.record_by.new.marks c.record_by.new.classes
+    RecordTold c.args.plan.now c.args.tab.now c.args.state.now c.node_count-n.result c.zeros-marks.result c.zeros-classes.result c.record_by.new.marks c.record_by.new.classes
 told c =
     record-told c.args.plan.now c.args.tab.now c.args.state.now c.requires.tab_value.0 c.requires.tab_value.1 c.requires.state_len _ c.node_count-n.ensures _ _
-    c.node_buffer-marks.ensures c.node_buffer-classes.ensures _ _ _ c.record_by.ensures
+    (sym c.zeros-marks.ensures.long) (sym c.zeros-classes.ensures.long) _ _ _ c.record_by.ensures
 
 pub slice_bounds-marks-end : goal.slice_bounds-marks-end
 slice_bounds-marks-end c = omega (arith, few c.before)

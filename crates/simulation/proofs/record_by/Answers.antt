@@ -1,36 +1,22 @@
 -- The table's test and the others, then the marks and the classes by them. Assumes nothing.
-use mathlib.Core.Path.{◌≡◌, sym, ◌∙◌}
-use Rattle.event.specs.Site.{own}
-use Rattle.retention.specs.Record.{table_number}
-use Rattle.simulation.specs.Run.{record_number}
+use Rattle.std.proofs.Common.{sym}
+use Rattle.fault.proofs.Laws.{fault-some, handed_on}
 use Rattle.simulation.proofs.RecordLaws.{record-told, table-refused, record-refused, record-long, record-laid, record-done}
 use Rattle.simulation.proofs.record_by.Goals as goal
-use Rattle.simulation.proofs.record_by.Lts
-use Rattle.simulation.proofs.record_by.Tie
-use Rattle.simulation.proofs.record_by.Reads
 
-told : (c : Lts.After-fit Tie.the-claims Reads.Pre Reads.Post Tie.handed_clauses) →
-    c.fit-number.result ≡ record_number c.args.plan.now (own c.args.plan.now) c.args.state.now c.args.marks.now c.args.classes.now
-told c = record-told _ _ _ _ _ c.node_count-n.ensures _ c.record_fits.ensures _ c.fit-number.ensures
+pub returns-in_err-check_table : goal.returns-in_err-check_table
+returns-in_err-check_table c = rw (handed_on _ _ c.from_residual.ensures.1) (table-refused _ _ _ _ _ _ _ c.in_err-check_table.ensures (fault-some _))
 
-right : (c : Lts.Else1 Tie.the-claims Reads.Pre Reads.Post Tie.handed_clauses) → table_number c.args.tab.now ≡ 0
-right c = sym c.check_table-bad.ensures ∙ c.if-bad-ne0.false
-
-module _ (c : Lts.Else2 Tie.the-claims Reads.Pre Reads.Post Tie.handed_clauses) where
-  none : record_number c.args.plan.now (own c.args.plan.now) c.args.state.now c.args.marks.now c.args.classes.now ≡ 0
-  none = sym (told c.before) ∙ c.if-number-ne0.false
-
-pub returns-then-bad-ne0 : goal.returns-then-bad-ne0
-returns-then-bad-ne0 c = table-refused _ _ _ _ _ _ _ c.check_table-bad.ensures c.if-bad-ne0.true
-
-pub returns-then-number-ne0 : goal.returns-then-number-ne0
-returns-then-number-ne0 c = record-refused _ _ _ _ _ _ (right c.before.before.before.before.before) _ (told c.before.before) c.if-number-ne0.true
+pub returns-in_err-fit : goal.returns-in_err-fit
+returns-in_err-fit c = rw (handed_on _ _ c.from_residual-in_err-fit.ensures.1)
+    (record-refused _ _ _ _ _ _ (sym c.in_ok-check_table.ensures) _ (record-told _ _ _ _ _ c.node_count-n.ensures _ c.record_fits-fits.ensures _ c.in_err-fit.ensures) (fault-some _))
 
 pub write_marks-requires : goal.write_marks-requires
-write_marks-requires c = let z = none c.before.before in
+write_marks-requires c =
+    let z = sym (record-told _ _ _ _ _ c.node_count-n.ensures _ c.record_fits-fits.ensures _ c.in_ok-fit.ensures) in
     record { laid = record-laid _ _ _ _ z; marks_len = (record-long _ _ _ _ _ z).1 }
 
 pub returns : goal.returns
 returns c =
-    let d = c.before.before.before.before.before.before.before.before.before in
-    record-done _ _ _ _ _ (none d) _ (right d.before.before.before.before) _ _ c.write_marks.ensures c.classify.ensures
+    let z = sym (record-told _ _ _ _ _ c.node_count-n.ensures _ c.record_fits-fits.ensures _ c.in_ok-fit.ensures) in
+    record-done _ _ _ _ _ z _ (sym c.in_ok-check_table.ensures) _ _ c.write_marks.ensures c.classify.ensures

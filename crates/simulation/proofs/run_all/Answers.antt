@@ -29,13 +29,10 @@ bounds-steps-f-in-loop-i-2 c = omega (arith, c.loop-i.invariant.long)
 pub advance-v-requires : goal.advance-v-requires
 advance-v-requires c = laid_kept _ _ _ _ c.requires.laid c.loop-i.invariant.kept
 
-pub loop-i-smaller : goal.loop-i-smaller
-loop-i-smaller c = omega (arith, c.loop-i.invariant.long)
-
 pub loop-i-preserved : goal.loop-i-preserved
-loop-i-preserved c = let s = c.before.before.before.before in let t = s.before.before.before.before.before.before.before.before.before in
-    run-turn _ _ _ _ _ _ t.loop-i.invariant (omega (arith, t.loop-i.invariant.long)) _ _ _ s.wide32.ensures s.wide32-in-loop-i.ensures s.wide32-in-loop-i-2.ensures _ _ s.advance-v.ensures
-    _ (ap (λ r. r.number) c.report_of-r.ensures) (search rules)
+loop-i-preserved c =
+    run-turn _ _ _ _ _ _ c.loop-i.invariant (omega (arith, c.loop-i.invariant.long, c.requires.numbers_len)) _ _ _ c.from.ensures c.from-in-loop-i.ensures c.from-in-loop-i-2.ensures _ _ c.advance-v.ensures
+    _ (ap (λ r. r.number) c.from-report.ensures) (search rules)
 
 pub shape_of-state : goal.shape_of-state
 shape_of-state c = c.loop-i.invariant.kept

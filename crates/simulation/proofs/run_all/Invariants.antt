@@ -1,11 +1,6 @@
 -- The frames before i have been run. Assumes nothing.
-use Prim.Native.Nat.{◌-◌, ◌/◌}
-use lib.ListN.{length}
 use Rattle.simulation.proofs.RunLaws.{Running}
 use Rattle.simulation.proofs.run_all.Given as goal
 
 abbrev pub invariant-loop-i : goal.invariant-loop-i
 invariant-loop-i l = Running l.plan l.steps l.initial.state l.state l.numbers l.i
-
-abbrev pub decreases-loop-i : goal.decreases-loop-i
-decreases-loop-i l = length l.steps / 3 - l.i

@@ -3,4 +3,4 @@ use Rattle.results.proofs.ResultLaws.{returned-result}
 use Rattle.simulation_exports.proofs.vulcedar_point_undo.Goals as goal
 
 pub returns : goal.returns
-returns c = returned-result _ _ _ _ _ _ c.point_undo-undone.ensures _ c.packed.ensures
+returns c = returned-result _ _ _ _ _ _ c.point_undo.ensures _ c.of_done.ensures

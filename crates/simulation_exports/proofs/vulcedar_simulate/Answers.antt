@@ -1,5 +1,5 @@
 -- The parts of the contract's one value. Assumes nothing.
-use mathlib.Core.Path.{sym, ap, ◌∙◌}
+use Rattle.std.proofs.Common.{sym, ap, ◌∙◌}
 use Rattle.results.specs.Result.{of_verdict}
 use Rattle.simulation_exports.proofs.vulcedar_simulate.Goals as goal
 

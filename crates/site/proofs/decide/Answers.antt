@@ -1,7 +1,5 @@
 -- Each return is one branch of the decision. Assumes nothing.
-use mathlib.Core.Path.{◌≡◌, sym, ◌∙◌}
-use mathlib.Core.Bool.{false}
-use native.Mathlib.Omega.{arith}
+use Rattle.std.proofs.Common.{◌≡◌, sym, ◌∙◌, false, arith}
 use Rattle.event.specs.Event.{event_of}
 use Rattle.guard.specs.Guard.{barred}
 use Rattle.guard.proofs.RuleLaws.{rule-small}

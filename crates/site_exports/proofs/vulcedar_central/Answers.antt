@@ -1,18 +1,19 @@
--- One law, and the result of each ruling. Assumes nothing.
-use mathlib.Core.Path.{sym, ap, ◌∙◌}
+-- One law, and the result of each ruling and of a refusal. Assumes nothing.
+use Rattle.std.proofs.Common.{refl, ap, ◌∙◌}
 use Rattle.central.specs.Rule.{ruling_number, ruling_value}
 use Rattle.results.specs.Result.{of_ruling}
 use Rattle.results.proofs.ResultLaws.{ruling-result}
 use Rattle.site_exports.proofs.vulcedar_central.Goals as goal
 
-pub returns-in-Allowed : goal.returns-in-Allowed
+pub returns-in-Ok-Allowed : goal.returns-in-Ok-Allowed
 unfolding of_ruling ruling_number ruling_value
-returns-in-Allowed c = let r = ruling-result _ _ _ _ c.rule-r.ensures _ (sym (ap of_ruling c.in-Allowed.is)) in record { value = r.0; marks_after = r.1.0; notes_after = r.1.1 }
+returns-in-Ok-Allowed c = let r = ruling-result _ _ _ _ (rw c.in-Ok-Allowed.field-0-is at c.in-Ok-Allowed.ensures) _ refl in record { value = r.0; marks_after = r.1.0; notes_after = r.1.1 }
 
-pub returns-in-Forbidden : goal.returns-in-Forbidden
+pub returns-in-Ok-Forbidden : goal.returns-in-Ok-Forbidden
 unfolding of_ruling ruling_number ruling_value
-returns-in-Forbidden c = let r = ruling-result _ _ _ _ c.rule-r.ensures _ (sym (ap of_ruling c.in-Forbidden.is)) in record { value = r.0; marks_after = r.1.0; notes_after = r.1.1 }
+returns-in-Ok-Forbidden c = let r = ruling-result _ _ _ _ (rw c.in-Ok-Forbidden.field-0-is at c.in-Ok-Forbidden.ensures) _ refl in record { value = r.0; marks_after = r.1.0; notes_after = r.1.1 }
 
-pub returns-in-Refused : goal.returns-in-Refused
+pub returns-in-Err : goal.returns-in-Err
 unfolding of_ruling ruling_number ruling_value
-returns-in-Refused c = let r = ruling-result _ _ _ _ c.rule-r.ensures _ (c.packed.ensures ∙ sym (ap of_ruling c.in-Refused.is)) in record { value = r.0; marks_after = r.1.0; notes_after = r.1.1 }
+returns-in-Err c =
+    let r = ruling-result _ _ _ _ c.in-Err.ensures _ c.of_fault.ensures in record { value = r.0; marks_after = r.1.0; notes_after = r.1.1 }

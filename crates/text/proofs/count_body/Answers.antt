@@ -1,5 +1,4 @@
 -- The tests of a well-formed text, in their order. Assumes nothing.
-use mathlib.Core.Path.{◌∙◌}
 use Prim.Native.Nat.{◌*◌, ◌≤◌}
 use native.Mathlib.Omega.{arith}
 use lib.ListN.{length}
@@ -29,7 +28,7 @@ pub slice_bounds-is_bar-start : goal.slice_bounds-is_bar-start
 slice_bounds-is_bar-start c = omega (arith, plan-in c.before)
 
 pub returns-then-not-is_bar : goal.returns-then-not-is_bar
-returns-then-not-is_bar c = c.malformed.ensures ∙ counts-no-bar _ _ _ c.count_lines-n.ensures c.is_bar.ensures (ap not c.if-not-is_bar.true)
+returns-then-not-is_bar c = counts-no-bar _ _ _ c.count_lines-n.ensures c.is_bar.ensures (ap not c.if-not-is_bar.true)
 
 pub overflow_add-from : goal.overflow_add-from
 overflow_add-from c = omega (arith, bar-room (split c.before))
@@ -47,7 +46,7 @@ pub overflow_mul-m : goal.overflow_mul-m
 overflow_mul-m c = omega (arith, steps-room (split c.before.before.before) c.count_lines-m.ensures)
 
 pub returns-then-text-from : goal.returns-then-text-from
-returns-then-text-from c = c.malformed-then-text-from.ensures ∙ counts-not (split c.before.before.before.before.before) c.count_lines-m.ensures _ (λ e. omega arith)
+returns-then-text-from c = counts-not (split c.before.before.before.before) c.count_lines-m.ensures _ (λ e. omega arith)
 
 pub returns : goal.returns
 returns c = counts-done (split c.before.before.before.before) c.count_lines-m.ensures _ (omega arith)

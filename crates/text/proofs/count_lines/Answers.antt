@@ -1,31 +1,23 @@
-use Prim.Native.Nat.{◌+◌, ◌*◌}
-use native.Mathlib.Omega.{arith}
-use Rattle.text.proofs.TextLaws.{Counted, count_none, count-out, count-stop, count-more}
-use mathlib.Core.Bool.{not}
-use mathlib.Core.Path.{ap}
+-- A line more, or the last. Assumes nothing.
+use Rattle.std.proofs.Common.{arith, sym, ◌∙◌}
+use Rattle.text.proofs.HexLaws.{line-long}
+use Rattle.text.proofs.TextLaws.{count_none, count-stop, count-more, rest-shorter}
 use Rattle.text.proofs.count_lines.Goals as goal
-use Rattle.text.proofs.count_lines.Lts
-use Rattle.text.proofs.count_lines.Tie
-use Rattle.text.proofs.count_lines.Reads
 
-pub loop-at-init : goal.loop-at-init
-loop-at-init c = count_none _ _
+pub loop-rest-init : goal.loop-rest-init
+loop-rest-init c = count_none _ _
 
-pub returns-then-not-is_line : goal.returns-then-not-is_line
-returns-then-not-is_line c = count-stop c.loop-at.invariant c.is_line.ensures (ap not c.if-not-is_line.true)
+pub slice_bounds-rest-count : goal.slice_bounds-rest-count
+slice_bounds-rest-count c = line-long _ _ (sym c.is_line.ensures ∙ c.loop-rest-test.true)
 
--- one line more
-more : (c : Lts.Else1 Tie.the-claims Reads.Pre Reads.Post goal.the-invariant-loop-at goal.the-decreases-loop-at) → Counted c.args.k c.args.text.now (c.loop-at.at + (2 * c.args.k + 1)) (c.loop-at.n + 1)
-more c = count-more c.loop-at.invariant c.is_line.ensures (ap not c.if-not-is_line.false)
+pub slice_bounds-rest-start : goal.slice_bounds-rest-start
+slice_bounds-rest-start c = omega (arith, line-long _ _ (sym c.is_line.ensures ∙ c.loop-rest-test.true))
 
-pub overflow_add-at-in-loop-at : goal.overflow_add-at-in-loop-at
-overflow_add-at-in-loop-at c = omega (arith, (more c.before).within)
+pub loop-rest-smaller : goal.loop-rest-smaller
+loop-rest-smaller c = rest-shorter _ _ (sym c.is_line.ensures ∙ c.loop-rest-test.true)
 
-pub loop-at-smaller : goal.loop-at-smaller
-loop-at-smaller c = omega (arith, (more c.before).within)
-
-pub loop-at-preserved : goal.loop-at-preserved
-loop-at-preserved c = more c.before
+pub loop-rest-preserved : goal.loop-rest-preserved
+loop-rest-preserved c = count-more c.loop-rest.invariant (sym c.is_line.ensures ∙ c.loop-rest-test.true)
 
 pub returns : goal.returns
-returns c = count-out c.loop-at.invariant c.loop-at-test.false
+returns c = count-stop c.loop-rest.invariant (sym c.is_line.ensures ∙ c.loop-rest-test.false)

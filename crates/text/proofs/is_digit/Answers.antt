@@ -1,15 +1,19 @@
 -- The ranges of bytes, one by one. Assumes nothing.
-use mathlib.Core.Path.{◌∙◌}
-use native.Mathlib.Omega.{arith}
-use borrow.Author.Tests.{lt-leb}
-use Rattle.text.proofs.HexLaws.{digit_low, digit-letter, digit-between}
+use Rattle.std.proofs.Common.{arith}
+use Rattle.text.proofs.HexLaws.{digit-between, is_low, is_letter, no_digit_below, no_digit_above}
 use Rattle.text.proofs.is_digit.Goals as goal
 
-pub returns-then-b-le57 : goal.returns-then-b-le57
-returns-then-b-le57 c = digit_low _ (omega arith)
+pub returns-in-48-to-57 : goal.returns-in-48-to-57
+returns-in-48-to-57 c = is_low _ (omega (arith, c.in-48-to-57)) (omega (arith, c.in-48-to-57))
 
-pub returns-then-b-ge97 : goal.returns-then-b-ge97
-returns-then-b-ge97 c = digit-letter _ (omega arith)
+pub returns-in-48-to-57-2 : goal.returns-in-48-to-57-2
+returns-in-48-to-57-2 c = is_letter _ (omega (arith, c.in-48-to-57)) (omega (arith, c.in-48-to-57))
 
-pub returns-else-b-ge97 : goal.returns-else-b-ge97
-returns-else-b-ge97 c = lt-leb _ _ c.if-b-ge97.false ∙ digit-between _ (omega arith) (omega arith)
+pub returns-in_default : goal.returns-in_default
+returns-in_default c = no_digit_below _ (omega (arith, c.in_default))
+
+pub returns-in_default-2 : goal.returns-in_default-2
+returns-in_default-2 c = digit-between _ (omega (arith, c.in_default)) (omega (arith, c.in_default))
+
+pub returns-in_default-3 : goal.returns-in_default-3
+returns-in_default-3 c = no_digit_above _ (omega (arith, c.in_default))

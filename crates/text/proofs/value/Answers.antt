@@ -1,29 +1,19 @@
--- The definition, test by test. Assumes nothing.
-use mathlib.Core.Path.{◌≡◌, sym, ◌∙◌}
-use mathlib.Core.Bool.{true}
-use native.Mathlib.Omega.{arith}
-use Rattle.text.specs.Hex.{is_digit}
-use Rattle.text.proofs.HexLaws.{digit_not, low-least, low_value, high-least, high_value}
+-- The ranges of bytes, one by one. Assumes nothing.
+use Rattle.std.proofs.Common.{arith, sym}
+use Rattle.text.proofs.HexLaws.{digit-between, no_digit_below, no_digit_above, digit_not, value_low, value_letter}
 use Rattle.text.proofs.value.Goals as goal
-use Rattle.text.proofs.value.Lts
-use Rattle.text.proofs.value.Tie
-use Rattle.text.proofs.value.Reads
 
-pub returns-then-not-is_digit : goal.returns-then-not-is_digit
-returns-then-not-is_digit c = digit_not _ (sym c.is_digit.ensures ∙ c.if-not-is_digit.true)
+pub returns-in-48-to-57 : goal.returns-in-48-to-57
+returns-in-48-to-57 c = value_low _ (omega (arith, c.in-48-to-57)) (omega (arith, c.in-48-to-57))
 
--- behind the test of a digit
-is_digit_lem : (c : Lts.Else1 Tie.the-claims Reads.Pre Reads.Post) → is_digit c.args.b ≡ true
-is_digit_lem c = sym c.is_digit.ensures ∙ c.if-not-is_digit.false
+pub returns-in-97-to-102 : goal.returns-in-97-to-102
+returns-in-97-to-102 c = value_letter _ (omega (arith, c.in-97-to-102)) (omega (arith, c.in-97-to-102))
 
-pub overflow_sub-result : goal.overflow_sub-result
-overflow_sub-result c = low-least _ (is_digit_lem c.before) c.if-b-le57.true
+pub returns-in_default : goal.returns-in_default
+returns-in_default c = digit_not _ (sym (no_digit_below _ (omega (arith, c.in_default))))
 
-pub overflow_sub-result-else-b-le57 : goal.overflow_sub-result-else-b-le57
-overflow_sub-result-else-b-le57 c = omega (arith, high-least _ (is_digit_lem c.before) c.if-b-le57.false)
+pub returns-in_default-2 : goal.returns-in_default-2
+returns-in_default-2 c = digit_not _ (sym (digit-between _ (omega (arith, c.in_default)) (omega (arith, c.in_default))))
 
-pub returns-then-b-le57 : goal.returns-then-b-le57
-returns-then-b-le57 c = low_value _ (is_digit_lem c.before) c.if-b-le57.true
-
-pub returns-else-b-le57 : goal.returns-else-b-le57
-returns-else-b-le57 c = high_value _ (is_digit_lem c.before) c.if-b-le57.false
+pub returns-in_default-3 : goal.returns-in_default-3
+returns-in_default-3 c = digit_not _ (sym (no_digit_above _ (omega (arith, c.in_default))))

@@ -1,8 +1,5 @@
 -- The guard is copied from the local array, if there is room for it. Assumes nothing.
-use mathlib.Core.Path.{refl, ◌∙◌}
-use Prim.Native.Nat.{◌≤◌}
-use native.Mathlib.Omega.{arith}
-use lib.ListN.{length}
+use Rattle.std.proofs.Common.{refl, ◌∙◌, ◌≤◌, arith, length}
 use Rattle.event.specs.Event.{event_of}
 use Rattle.guard.specs.Guard.{guard}
 use Rattle.guard.specs.Bytes.{encode}
@@ -20,19 +17,22 @@ short c = guard-short _ c.requires _
 pub slice_bounds-fill-end : goal.slice_bounds-fill-end
 slice_bounds-fill-end c = refl
 
-pub returns-then-buf-length : goal.returns-then-buf-length
-returns-then-buf-length c = fitted-not _ _ _ (omega (arith, c.fill-length.ensures.place, c.if-buf-length.true))
+pub returns-then-buf-end : goal.returns-then-buf-end
+returns-then-buf-end c = fitted-not _ _ _ (omega (arith, c.fill-end.ensures.place, c.if-buf-end.true))
 
 pub slice_bounds-local-end : goal.slice_bounds-local-end
-slice_bounds-local-end c = front-in c.fill-length.ensures (short c.before.before.before)
+slice_bounds-local-end c = front-in c.fill-end.ensures (short c.before.before.before)
 
 pub slice_bounds-copy-end : goal.slice_bounds-copy-end
-slice_bounds-copy-end c = front_length c.fill-length.ensures (short c.before.before.before.before)
+slice_bounds-copy-end c = front_length c.fill-end.ensures (short c.before.before.before.before)
 
 pub copy-requires : goal.copy-requires
-copy-requires c = let e = front_length c.fill-length.ensures (short c.before.before.before.before.before) in omega (arith, c.if-buf-length.false)
+copy-requires c = let e = front_length c.fill-end.ensures (short c.before.before.before.before.before) in omega (arith, c.if-buf-end.false)
 
 pub returns : goal.returns
 returns c = let s = c.before.before.before.before.before.before.before.before in
-    fitted-done _ _ _ (omega (arith, s.fill-length.ensures.place, c.if-buf-length.false))
-    ∙ copied _ s.fill-length.ensures (short s) refl c.copy.ensures
+    fitted-done _ _ _ (omega (arith, s.fill-end.ensures.place, c.if-buf-end.false))
+    ∙ copied _ s.fill-end.ensures (short s) refl c.copy.ensures
+
+pub overflow_cast-length : goal.overflow_cast-length
+overflow_cast-length c = omega (arith, c.fill-end.ensures.place, guard-short _ c.requires (event_of c.args.code c.args.v))

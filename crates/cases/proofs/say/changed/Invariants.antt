@@ -1,11 +1,6 @@
--- Nothing is known of the turns but that they end. Assumes nothing.
-use Prim.Native.Nat.{◌-◌}
-use lib.ListN.{length}
-use borrow.Author.Rules.{rules}
+-- The last change stands before the byte that is read. Assumes nothing.
+use Rattle.std.proofs.Common.{◌≤◌}
 use Rattle.cases.proofs.say.changed.Given as goal
 
 abbrev pub invariant-loop-i : goal.invariant-loop-i
-invariant-loop-i l = Unit {0}
-
-abbrev pub decreases-loop-i : goal.decreases-loop-i
-decreases-loop-i l = length l.list - l.i
+invariant-loop-i l = l.last ≤ l.i

@@ -30,10 +30,10 @@ pub rule_kind-requires : goal.rule_kind-requires
 rule_kind-requires c = known c.before.before.before
 
 pub overflow_add-result : goal.overflow_add-result
-overflow_add-result c = omega (arith, c.wide-2.ensures, (known c.before.before.before.before.before.before).1)
+overflow_add-result c = omega (arith, c.from-2.ensures, (known c.before.before.before.before.before.before).1)
 
 pub returns : goal.returns
 returns c = let n = c.before.before.before in
     let j = n.before.before.before in
-    ap (λ k. 16 * c.wide.result + k) c.wide-2.ensures ∙ ap (λ k. 16 * k + j.if-code.k) (c.wide.ensures ∙ n.rule_kind.ensures)
+    ap (λ k. 16 * c.from.result + k) c.from-2.ensures ∙ ap (λ k. 16 * k + j.if-code.k) (c.from.ensures ∙ n.rule_kind.ensures)
     ∙ rule-plain _ _ _ (known j).0 (known j).1 (rw n.above.ensures at n.if-k-above.false) ∙ rule-is j

@@ -2,7 +2,8 @@
 use mathlib.Core.Path.{◌∙◌}
 use native.Mathlib.Omega.{arith}
 use borrow.Author.Tests.{eq-eqb, ne_eqb}
-use Rattle.plan.specs.Plan.{xor, kind_number, is_kind, kind_of}
+use Rattle.plan.specs.Plan.{kind_number, is_kind, kind_of}
+use Rattle.plan.specs.declared.kinds.Kind.TheVariants.{Xor as xor}
 use Rattle.plan.proofs.KindLaws.{is-kind}
 use Rattle.event.specs.Event.{code_number, code_of}
 use Rattle.event.proofs.CodeLaws.{code-down}

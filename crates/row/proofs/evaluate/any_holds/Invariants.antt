@@ -1,6 +1,5 @@
 -- The rest of the family says what all of it says. Assumes nothing.
-use mathlib.Core.Path.{◌≡◌}
-use Prim.Native.Nat.{◌-◌}
+use Rattle.std.proofs.Common.{◌≡◌, ◌-◌}
 use Rattle.lists.specs.Seq.{any, keep, up_from}
 use Rattle.guard.specs.Family.{in_family, family}
 use Rattle.row.specs.Row.{heard_in}
@@ -8,6 +7,3 @@ use Rattle.row.proofs.evaluate.any_holds.Given as goal
 
 abbrev pub invariant-loop-c : goal.invariant-loop-c
 invariant-loop-c l = any (heard_in l.row l.code) (family l.plan l.u l.skip) ≡ any (heard_in l.row l.code) (keep (in_family l.plan l.u l.skip) (up_from l.c (l.n - l.c)))
-
-abbrev pub decreases-loop-c : goal.decreases-loop-c
-decreases-loop-c l = l.n - l.c

@@ -1,5 +1,4 @@
-use mathlib.Core.Path.{sym}
-use native.Mathlib.Omega.{arith}
+use Rattle.std.proofs.Common.{sym, arith}
 use Rattle.plan.specs.Plan.{size, parent}
 use Rattle.row.proofs.EvaluateLaws.{search-begin, search-found, search-on, search-skip, search-out}
 use Rattle.row.proofs.evaluate.before_or_last.Goals as goal

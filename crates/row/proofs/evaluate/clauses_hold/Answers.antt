@@ -1,22 +1,17 @@
-use mathlib.Core.Path.{◌≡◌, refl, sym, ap, ◌∙◌}
-use mathlib.Core.Bool.{true}
-use native.Mathlib.Omega.{arith}
-use borrow.Author.Tests.{eq-eqb, ne_eqb}
-use lib.Dec.{eqb}
+use Rattle.std.proofs.Common.{◌≡◌, refl, sym, ap, ◌∙◌, true, arith, eq-eqb, ne_eqb, eqb, rules}
 use Rattle.lists.specs.Seq.{all}
 use Rattle.lists.proofs.Any.{any_found, any-on, any_out}
 use Rattle.plan.specs.Plan.{size, parent}
 use Rattle.row.specs.Evaluate.{clause_holds}
 use Rattle.row.proofs.EvaluateLaws.{children-from, all-fails, all-on, all-skip, all-out}
-use borrow.Author.Rules.{rules}
 use Rattle.row.proofs.evaluate.clauses_hold.Goals as goal
 use Rattle.row.proofs.evaluate.clauses_hold.Lts
 use Rattle.row.proofs.evaluate.clauses_hold.Tie
 use Rattle.row.proofs.evaluate.clauses_hold.Reads
 
 -- a turn that has not been skipped is that of a child
-own : (c : Lts.Else1 Tie.the-claims Reads.Pre Reads.Post goal.the-invariant-loop-j goal.the-decreases-loop-j goal.the-invariant-clause goal.the-decreases-clause) → let t = c.before.before.before in let a = t.args in
-    eqb (parent a.plan.now t.clause.c) a.u ≡ true
+own : (c : Lts.Else1 Tie.the-claims Reads.Pre Reads.Post goal.the-invariant-loop-code goal.the-decreases-loop-code goal.the-invariant-clause goal.the-decreases-clause) → let t = c.before.before.before in let a = t.args in
+    eqb (parent a.plan.now t.clause.child) a.u ≡ true
 unfolding parent
 own c = eq-eqb _ _ c.if-plan-child.false
 
@@ -40,8 +35,8 @@ unfolding parent
 clause-preserved-then-plan-child c = let t = c.before.before.before in
     (t.clause.invariant.0, all-skip _ _ _ _ t.clause.invariant.1 t.clause-test.true (ne_eqb _ _ c.if-plan-child.true))
 
-pub loop-j-init : goal.loop-j-init
-loop-j-init c = (search rules, refl)
+pub loop-code-init : goal.loop-code-init
+loop-code-init c = (search rules, refl)
 
 pub clause-preserved : goal.clause-preserved
 unfolding clause_holds
@@ -49,18 +44,18 @@ clause-preserved c = let l = c.before.before.before.before.before in
     let t = l.before.before.before in (
       t.clause.invariant.0,
       all-on _ _ _ _ t.clause.invariant.1 t.clause-test.true (own l.before)
-          (any_found _ _ _ _ l.loop-j.invariant.1 c.loop-j-test.true (sym c.heard.ensures ∙ c.if-heard.true)),
+          (any_found _ _ _ _ l.loop-code.invariant.1 c.loop-code-test.true (sym c.heard.ensures ∙ c.if-heard.true)),
     )
 
-pub loop-j-preserved : goal.loop-j-preserved
-loop-j-preserved c = let l = c.before.before.before.before.before in
-    (search rules, any-on _ _ _ _ l.loop-j.invariant.1 c.loop-j-test.true (sym c.heard.ensures ∙ c.if-heard.false))
+pub loop-code-preserved : goal.loop-code-preserved
+loop-code-preserved c = let l = c.before.before.before.before.before in
+    (search rules, any-on _ _ _ _ l.loop-code.invariant.1 c.loop-code-test.true (sym c.heard.ensures ∙ c.if-heard.false))
 
 pub returns-after-clause : goal.returns-after-clause
 returns-after-clause c = let i = c.clause.invariant in i.0 ∙ sym (all-out _ _ _ _ i.1 c.clause-test.false)
 
-pub returns-after-loop-j : goal.returns-after-loop-j
+pub returns-after-loop-code : goal.returns-after-loop-code
 unfolding clause_holds
-returns-after-loop-j c = let l = c.before.before in
+returns-after-loop-code c = let l = c.before.before in
     let t = l.before.before.before in
-    sym (all-fails _ _ _ _ t.clause.invariant.1 t.clause-test.true (own l.before) (any_out _ _ _ _ l.loop-j.invariant.1 c.loop-j-test.false))
+    sym (all-fails _ _ _ _ t.clause.invariant.1 t.clause-test.true (own l.before) (any_out _ _ _ _ l.loop-code.invariant.1 c.loop-code-test.false))

@@ -1,6 +1,5 @@
 -- The codes of each clause are the first of the three. Assumes nothing.
-use mathlib.Core.Path.{sym, ◌∙◌}
-use native.Mathlib.Omega.{arith}
+use Rattle.std.proofs.Common.{sym, ◌∙◌, arith}
 use Rattle.row.proofs.EvaluateLaws.{each_free, each-by, past_two, three-codes}
 use Rattle.row.proofs.evaluate.each_holds.Goals as goal
 

@@ -1,5 +1,5 @@
 -- Each of the children, then any of the family. Assumes nothing.
-use mathlib.Core.Path.{sym, ◌∙◌}
+use Rattle.std.proofs.Common.{sym, ◌∙◌}
 use Rattle.row.proofs.EvaluateLaws.{family-fails, family-each, family-any}
 use Rattle.row.proofs.evaluate.family_holds.Goals as goal
 

@@ -1,5 +1,5 @@
 -- By the kinds' bytes. Assumes nothing.
-use mathlib.Core.Path.{sym}
+use Rattle.std.proofs.Common.{sym}
 use Rattle.guard.proofs.NamedLaws.{one-bytes}
 use Rattle.row.proofs.evaluate.names_one.Goals as goal
 

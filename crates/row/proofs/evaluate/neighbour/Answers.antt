@@ -1,10 +1,6 @@
 -- The search for v itself, or for the root, which is nobody's child. Assumes nothing.
-use mathlib.Core.Path.{◌≡◌}
-use mathlib.Core.List.{List}
-use Prim.Native.Nat.{ℕ, ◌≤◌}
-use lib.Dec.{eqb}
-use borrow.Author.Tests.{eqb-true, eqb-false}
-use native.Mathlib.Omega.{arith}
+use Rattle.std.proofs.Common.{◌≡◌, List, ℕ, ◌≤◌, eqb, eqb-true, arith}
+use borrow.Author.Tests.{eqb-false}
 use Rattle.lists.proofs.Logic.{cases, decided}
 use Rattle.plan.specs.Plan.{children}
 use Rattle.event.specs.Event.{code_of}
@@ -22,4 +18,4 @@ neighbour-stop p code v is low high h s t = cases (decided (eqb code 1))
 
 pub returns : goal.returns
 returns c = λ low high.
-    neighbour-stop _ _ _ c.family_parent.ensures low high (rw c.wide.ensures at c.before_or_last.ensures) (λ e. grind arith) (λ n. grind arith)
+    neighbour-stop _ _ _ c.family_parent.ensures low high (rw c.from.ensures at c.before_or_last.ensures) (λ e. grind arith) (λ n. grind arith)

@@ -1,5 +1,5 @@
 -- One law for each way out. Assumes nothing.
-use mathlib.Core.Path.{sym, ◌∙◌}
+use Rattle.std.proofs.Common.{sym, ◌∙◌}
 use Rattle.row.proofs.EvaluateLaws.{one_none, one-some}
 use Rattle.row.proofs.evaluate.one_holds.Goals as goal
 

@@ -1,6 +1,5 @@
 -- The table's line, with v's neighbour where the guard goes by it. Assumes nothing.
-use mathlib.Core.Path.{◌≡◌, sym, ap, ◌∙◌}
-use mathlib.Core.Bool.{true}
+use Rattle.std.proofs.Common.{◌≡◌, sym, ap, ◌∙◌, true}
 use Rattle.event.specs.Event.{code_of}
 use Rattle.plan.specs.Plan.{kind, above}
 use Rattle.guard.specs.Family.{named_nodes, neighbour, names_one}
@@ -23,5 +22,5 @@ neighbour-is c one = let a = c.args in
 
 pub returns : goal.returns
 returns c = let k = c.before.before.before.before.before in
-    shape-by-one _ _ _ c.kind.ensures c.above.ensures (k.wide-u.ensures ∙ k.parent.ensures) c.wide.ensures
+    shape-by-one _ _ _ c.kind.ensures c.above.ensures (k.from-u.ensures ∙ k.parent.ensures) c.from.ensures
     (neighbour-is k.before.before) c.shape_of.ensures

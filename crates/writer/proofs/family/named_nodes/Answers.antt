@@ -1,6 +1,5 @@
 -- The family, or nobody. Assumes nothing.
-use mathlib.Core.Path.{◌≡◌, sym, ◌∙◌}
-use native.Mathlib.Omega.{arith}
+use Rattle.std.proofs.Common.{◌≡◌, sym, ◌∙◌, arith}
 use Rattle.plan.specs.Plan.{kind, above}
 use Rattle.event.specs.Event.{code_of}
 use Rattle.guard.specs.Family.{names_family}

@@ -1,8 +1,5 @@
 -- The nodes that the guard names are gathered at the front of the local array, and the guard is its shape over those. Assumes nothing.
-use mathlib.Core.Path.{sym, ap, ◌∙◌}
-use Prim.Native.Nat.{◌≤◌}
-use native.Mathlib.Omega.{arith}
-use lib.ListN.{length}
+use Rattle.std.proofs.Common.{sym, ap, ◌∙◌, ◌≤◌, arith, length, rules}
 use Rattle.event.specs.Event.{code_of, event_of}
 use Rattle.guard.specs.Guard.{before_in, guard}
 use Rattle.guard.specs.Family.{named_nodes}
@@ -11,7 +8,6 @@ use Rattle.guard.proofs.ShapeLaws.{GivesGuard, shape-node}
 use Rattle.guard.proofs.PutLaws.{put_as, front, front_length, front-in}
 use Rattle.guard.proofs.Short.{guard-short}
 use Rattle.guard.proofs.NamedLaws.{named-few, guard-shape, shape_is, neighbour-named}
-use borrow.Author.Rules.{rules}
 use Rattle.writer.proofs.fill.fill.Goals as goal
 use Rattle.writer.proofs.fill.fill.Lts
 use Rattle.writer.proofs.fill.fill.Tie
@@ -28,9 +24,9 @@ module _ (c : Lts.After-shape_of Tie.the-claims Reads.Pre Reads.Post) where
       let s = k.before.before.before.before in
       let v = s.args.v in
       let w = c.before.before.before.before.before.before in
-      let n = w.wide-b.ensures ∙ w.before-2.ensures ∙ ap (λ l. before_in v l v) (front k.named_nodes-n.ensures (few k)) ∙ neighbour-named s.args.plan.now s.requires.0 (code_of s.args.code) v in
+      let n = w.from-b.ensures ∙ w.before-2.ensures ∙ ap (λ l. before_in v l v) (front k.named_nodes-n.ensures (few k)) ∙ neighbour-named s.args.plan.now s.requires.0 (code_of s.args.code) v in
       rw (shape_is s.args.plan.now s.args.code v c.kind.ensures c.above.ensures
-      (c.wide-u.ensures ∙ c.parent.ensures) c.wide.ensures (λ low high. n) c.shape_of-s.ensures)
+      (c.from-u.ensures ∙ c.parent.ensures) c.from.ensures (λ low high. n) c.shape_of-s.ensures)
       (guard-shape _ _ _)
 
   -- its node fits a byte

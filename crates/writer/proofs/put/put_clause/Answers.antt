@@ -1,6 +1,5 @@
 -- Up to seven stores, two behind those before them. Assumes nothing.
-use native.Mathlib.Omega.{arith}
-use lib.ListN.{length-set}
+use Rattle.std.proofs.Common.{arith, length-set}
 use Rattle.guard.proofs.PutLaws.{clause-one, clause-two, clause-three}
 use Rattle.writer.proofs.put.put_clause.Goals as goal
 

@@ -1,7 +1,5 @@
 -- The first bytes, and behind them the last clause. Assumes nothing.
-use mathlib.Core.Path.{◌≡◌, sym, ◌∙◌}
-use Prim.Native.Nat.{◌≤◌}
-use native.Mathlib.Omega.{arith}
+use Rattle.std.proofs.Common.{◌≡◌, sym, ◌∙◌, ◌≤◌, arith}
 use Rattle.guard.specs.Put.{more_of}
 use Rattle.lists.proofs.PutLaws.{put-length}
 use Rattle.guard.proofs.PutLaws.{more-none, more-some, shape-length, shape-put}

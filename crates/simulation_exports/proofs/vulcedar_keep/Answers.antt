@@ -1,0 +1,6 @@
+-- The parts of what is left. Assumes nothing.
+use Rattle.results.proofs.ResultLaws.{kept_result}
+use Rattle.simulation_exports.proofs.vulcedar_keep.Goals as goal
+
+pub returns : goal.returns
+returns c = kept_result _ _ _ _ _ c.keep.ensures _ c.of_verdict.ensures
