@@ -40,7 +40,9 @@ pub(crate) fn wide(line: &[u8], at: usize) -> u32
 }
 
 // How many bytes the line gives.
-fn given(line: &[u8]) -> usize {
+fn given(line: &[u8]) -> usize
+    ensures { result ≤ length line.now }
+{
     let end = line_end(line);
     if end < 10 {
         return 0;

@@ -19,8 +19,7 @@ mod say;
 
 ghost use Rattle.std.specs.Prelude.{◌≤◌, length};
 
-use std::io;
-use std::io::Write;
+const STDIN: i32 = 0;
 
 // The last lines of the plan, of the bytes lent and of those handed over, each as the text from its beginning on; empty where there is none.
 #[derive(Clone, Copy)]
@@ -32,13 +31,7 @@ struct Noted<'a> {
 }
 
 // The call of a line, on a plan and handed bytes; a and b are lent as their lines say.
-fn tried<W: Write>(
-    out: &mut W,
-    line: &[u8],
-    noted: &Noted<'_>,
-    plan: &[u8],
-    c: &[u8],
-) -> io::Result<()> {
+fn tried(line: &[u8], noted: &Noted<'_>, plan: &[u8], c: &[u8]) {
     let mut a = [0u8; 65536];
     let mut b = [0u8; 4096];
     let m = item::fill(noted.a, &mut a);
@@ -46,21 +39,21 @@ fn tried<W: Write>(
     let was_a = a;
     let was_b = b;
     let result = calls::call(line, plan, c, &mut a[..m], &mut b[..n]);
-    say::answer(out, line, result)?;
-    say::lent(out, plan::byte_at(line, 0), &was_a, &a, &was_b, &b)
+    say::answer(line, result);
+    say::lent(plan::byte_at(line, 0), &was_a, &a, &was_b, &b);
 }
 
 // A case, by the lines noted for it.
-fn case<W: Write>(out: &mut W, line: &[u8], noted: &Noted<'_>) -> io::Result<()> {
+fn case(line: &[u8], noted: &Noted<'_>) {
     let mut plan = [0u8; 4096];
     let mut handed = [0u8; 65536];
     let n = item::fill(noted.plan, &mut plan);
     let m = item::fill(noted.c, &mut handed);
-    tried(out, line, noted, &plan[..n], &handed[..m])
+    tried(line, noted, &plan[..n], &handed[..m]);
 }
 
 // Each line in turn: a heading is printed, a case is tried, and any other line is noted.
-fn lines<W: Write>(out: &mut W, text: &[u8]) -> io::Result<()>
+fn lines(text: &[u8])
     requires { length text.now ≤ 65536 }
 {
     let mut noted = Noted {
@@ -76,8 +69,8 @@ fn lines<W: Write>(out: &mut W, text: &[u8]) -> io::Result<()>
             b'a' => noted.a = rest,
             b'b' => noted.b = rest,
             b'c' => noted.c = rest,
-            b'#' => say::heading(out, rest)?,
-            b'A'..=b'Z' => case(out, rest, &noted)?,
+            b'#' => say::heading(rest),
+            b'A'..=b'Z' => case(rest, &noted),
             _ => {}
         }
         let end = item::line_end(rest);
@@ -87,11 +80,10 @@ fn lines<W: Write>(out: &mut W, text: &[u8]) -> io::Result<()>
             &[]
         };
     }
-    Ok(())
 }
 
-fn main(rt: HostRuntime) -> io::Result<()> {
+fn main() {
     let mut text = [0u8; 65536];
-    let n = input::read_full(&mut rt.reader(), &mut text)?;
-    lines(&mut io::writer(&rt), &text[..n])
+    let n = io::read_full(STDIN, &mut text);
+    lines(&text[..n]);
 }

@@ -3,7 +3,7 @@ use Rattle.std.proofs.Common.{length, ◌≤◌}
 use Rattle.cases.proofs.lines.Given as goal
 
 abbrev pub invariant-loop-noted : goal.invariant-loop-noted
-invariant-loop-noted g l = length l.rest ≤ 65536
+invariant-loop-noted l = length l.rest ≤ 65536
 
 abbrev pub decreases-loop-noted : goal.decreases-loop-noted
-decreases-loop-noted g l = length l.rest
+decreases-loop-noted l = length l.rest
