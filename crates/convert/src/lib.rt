@@ -102,7 +102,7 @@ fn level_ok(depths: &[u8], v: usize) -> bool
         return e == 1;
     }
     let before = depth_at(depths, v - 1);
-    2 <= e && e <= before + 1
+    (2 <= e) & (e <= before + 1)
 }
 
 // As in the check, the loop runs on behind a failed test, and has no closure for its test: the closure's clauses would be longer than the loop.

@@ -14,9 +14,7 @@ use Rattle.plan.specs.Check.{Accepted}
 use Rattle.way.specs.Way.{way, way_result, found_into}
 use Rattle.way.specs.Can.{fits_of, open_at}
 use Rattle.way.proofs.Greedy.{Asked, Chosen, open-some, chosen_none, chosen-turn, chosen-all, way-empty}
-use Rattle.find_way.specs.declared.Marks.{Marks}
 use Rattle.find_way.specs.declared.Target.{Target}
-use Rattle.find_way.specs.Marks.{no_marks}
 use Rattle.find_way.specs.Search.{Given, KnowsAll, Knew, opens, Wanted, Open, Put}
 use Rattle.find_way.proofs.FrontLaws.{fits-front, opens-is}
 
@@ -28,7 +26,7 @@ abbrev pub given-on : {p first next a : List ℕ} (b : List ℕ) → length b �
 given-on b l g = record { accepted = g.accepted; linked = g.linked; answers = l ∙ g.answers }
 
 -- bytes below b do not do; the answers are as they were but at i, and the table is right for what was fixed there before
-pub record Choosing (p first next : List ℕ) (t : Target) (a₀ : List ℕ) (i : ℕ) (a : List ℕ) (table : List Marks) (b : ℕ) : Type 0 where
+pub record Choosing (p first next : List ℕ) (t : Target) (a₀ : List ℕ) (i : ℕ) (a table : List ℕ) (b : ℕ) : Type 0 where
   pub given : Given p first next a₀
   pub before : Open p t a₀ i
   pub long : length a ≡ length a₀
@@ -41,10 +39,10 @@ pub record Choosing (p first next : List ℕ) (t : Target) (a₀ : List ℕ) (i 
   pub none : (c : ℕ) → c < b → open_at p t.node t.mark t.end (set a₀ i c) (i + 1) ≡ false
 
 module _ {p first next : List ℕ} {t : Target} {a₀ : List ℕ} {i : ℕ} where
-  pub choose-none : (table : List Marks) → Given p first next a₀ → Open p t a₀ i → KnowsAll p a₀ i t table → Choosing p first next t a₀ i a₀ table 0
+  pub choose-none : (table : List ℕ) → Given p first next a₀ → Open p t a₀ i → KnowsAll p a₀ i t table → Choosing p first next t a₀ i a₀ table 0
   choose-none table g o k = record { given = g; before = o; long = refl; same = λ y. refl; was = a₀; upto = i; fixed-as = λ v x n. refl; known = k; small = omega arith; none = λ c l. absurd (omega arith) }
 
-  module _ {a : List ℕ} {table : List Marks} {b : ℕ} (h : Choosing p first next t a₀ i a table b) where
+  module _ {a table : List ℕ} {b : ℕ} (h : Choosing p first next t a₀ i a table b) where
     pub choose-long : length (set a i b) ≡ length a₀
     choose-long = length-set a i b ∙ h.long
 
@@ -61,12 +59,12 @@ module _ {p first next : List ℕ} {t : Target} {a₀ : List ℕ} {i : ℕ} wher
     choose-known = record { was = h.was; upto = h.upto; same = λ v x n. h.fixed-as v x n ∙ sym (fixed-now v x n); known = h.known }
 
     -- the table after the climb
-    module _ (table' : List Marks) (k : KnowsAll p (set a i b) (i + 1) t table') where
-      open_is : opens (get_or table' 0 no_marks) t.end ≡ open_at p t.node t.mark t.end (set a₀ i b) (i + 1)
+    module _ (table' : List ℕ) (k : KnowsAll p (set a i b) (i + 1) t table') where
+      open_is : opens (get_or table' 0 0) t.end ≡ open_at p t.node t.mark t.end (set a₀ i b) (i + 1)
       open_is = opens-is p (set a i b) (i + 1) t table' h.given.accepted h.before.wanted k
           ∙ ap (λ z. open_at p t.node t.mark t.end z (i + 1)) (h.same b)
 
-      module _ (no : opens (get_or table' 0 no_marks) t.end ≡ false) where
+      module _ (no : opens (get_or table' 0 0) t.end ≡ false) where
         none-on : (c : ℕ) → c < b + 1 → open_at p t.node t.mark t.end (set a₀ i c) (i + 1) ≡ false
         none-on c l = cases (decided (eqb c b)) (λ q. rw (eqb-true c b q) (sym open_is ∙ no)) (λ q. let ne : c ≡ b → ⊥ = eqb-false c b q in h.none c (omega arith))
 
@@ -90,21 +88,21 @@ module _ {p first next : List ℕ} {t : Target} {a₀ : List ℕ} {i : ℕ} wher
           none = none-on;
         }
 
-      pub choose-done : opens (get_or table' 0 no_marks) t.end ≡ true → Put p t a₀ i (set a i b)
+      pub choose-done : opens (get_or table' 0 0) t.end ≡ true → Put p t a₀ i (set a i b)
       choose-done o = record { byte = b; small = h.small; is = h.same b; before = h.none; goes_on = sym open_is ∙ o }
 
 pub put-long : {p : List ℕ} {t : Target} {a : List ℕ} {i : ℕ} {b : List ℕ} → Put p t a i b → length b ≡ length a
 put-long {a = a} {i = i} u = ap length u.is ∙ length-set a i u.byte
 
 -- the answers up to node i are the way's
-pub record Showing (p first next : List ℕ) (t : Target) (a : List ℕ) (table : List Marks) (i : ℕ) : Type 0 where
+pub record Showing (p first next : List ℕ) (t : Target) (a table : List ℕ) (i : ℕ) : Type 0 where
   pub given : Given p first next a
   pub wanted : Wanted p t
   pub chosen : Chosen (asked given.accepted wanted) a i
   pub known : KnowsAll p a i t table
 
-module _ {p first next : List ℕ} {t : Target} {a : List ℕ} {table : List Marks} where
-  pub show-none : Given p first next a → Wanted p t → KnowsAll p a 0 t table → opens (get_or table 0 no_marks) t.end ≡ true → Showing p first next t a table 0
+module _ {p first next : List ℕ} {t : Target} {a table : List ℕ} where
+  pub show-none : Given p first next a → Wanted p t → KnowsAll p a 0 t table → opens (get_or table 0 0) t.end ≡ true → Showing p first next t a table 0
   show-none g w k o = record {
     given = g;
     wanted = w;
@@ -112,15 +110,15 @@ module _ {p first next : List ℕ} {t : Target} {a : List ℕ} {table : List Mar
     known = k;
   }
 
-  pub show-empty : Given p first next a → Wanted p t → KnowsAll p a 0 t table → opens (get_or table 0 no_marks) t.end ≡ false → found_into (way p t.node t.mark t.end) a ≡ way_result 30 a
+  pub show-empty : Given p first next a → Wanted p t → KnowsAll p a 0 t table → opens (get_or table 0 0) t.end ≡ false → found_into (way p t.node t.mark t.end) a ≡ way_result 30 a
   unfolding found_into
   show-empty g w k o = rw (way-empty (asked g.accepted w) a g.answers (sym (opens-is p a 0 t table g.accepted w k) ∙ o))
 
-module _ {p first next : List ℕ} {t : Target} {a : List ℕ} {table : List Marks} {i : ℕ} (h : Showing p first next t a table i) where
+module _ {p first next : List ℕ} {t : Target} {a table : List ℕ} {i : ℕ} (h : Showing p first next t a table i) where
   pub show-open : i < size p → Open p t a i
   show-open l = record { wanted = h.wanted; within = l; small = h.chosen.small; goes_on = h.chosen.goes_on }
 
-  pub show-turn : i < size p → (b : List ℕ) (table' : List Marks) → Put p t a i b → KnowsAll p b (i + 1) t table' → Showing p first next t b table' (i + 1)
+  pub show-turn : i < size p → (b table' : List ℕ) → Put p t a i b → KnowsAll p b (i + 1) t table' → Showing p first next t b table' (i + 1)
   show-turn l b table' u k = record {
     given = given-on b (put-long u) h.given;
     wanted = h.wanted;

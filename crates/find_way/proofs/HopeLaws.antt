@@ -1,6 +1,6 @@
 -- What the code holds of a block is `all` and `stops` over its children, and of a node what it can get. Assumes nothing.
 use mathlib.Core.Path.{◌≡◌, refl, sym, ◌∙◌, ap, ap₂, subst}
-use mathlib.Core.Bool.{Bool, true, false, false≢true, beq, cond, ◌&&◌, ◌||◌, not, and-true, and-false, or-false, and_assoc, and_comm, or_comm}
+use mathlib.Core.Bool.{Bool, true, false, cond, ◌&&◌, ◌||◌, not, and-true, and-false, or-false, and_assoc, and_comm, or_comm}
 use mathlib.Core.List.{List, [], ◌∷◌}
 use Prim.Native.Nat.{ℕ, suc, ◌≤◌, ◌<◌}
 use native.Mathlib.Omega.{arith}
@@ -9,7 +9,7 @@ use lib.ListN.{get_or}
 use borrow.Author.Tests.{ltb-true, ltb-false, le-leb, lt-leb, eqb-true, eqb-false}
 use Rattle.lists.specs.Seq.{all}
 use Rattle.lists.specs.Member.{In, here, there}
-use Rattle.lists.proofs.Logic.{cases, decided, both}
+use Rattle.lists.proofs.Logic.{cases, decided}
 use Rattle.plan.specs.Plan.{kind_of, kind_byte, kind, size, children}
 use Rattle.plan.specs.Check.{Accepted}
 use Rattle.way.specs.Can.{stops, anywhere, gets, gets_one, works_by, breaks_by, can_by, can_at, fits_of, allows_of}
@@ -17,7 +17,7 @@ use Rattle.way.proofs.CanLaws.{can-is}
 use Rattle.find_way.specs.declared.Marks.{Marks}
 use Rattle.find_way.specs.declared.Hope.{Hope}
 use Rattle.find_way.specs.declared.Target.{Target}
-use Rattle.find_way.specs.Marks.{as_and, as_or, keeps, turns, rests, plains, joined, unseen, hope_on, works_to, breaks_to, marks_by, marks_at}
+use Rattle.find_way.specs.Marks.{packed, unpacked, as_and, as_or, keeps, turns, rests, plains, joined, unseen, hope_on, works_to, breaks_to, marks_by, marks_at}
 use Rattle.find_way.specs.Search.{able}
 
 pub fits-is : (a : List ℕ) (i v x : ℕ) → (leb i v || eqb x (get_or a v 0)) ≡ fits_of a i v x
@@ -26,19 +26,30 @@ fits-is a i v x = cases (decided (ltb v i))
     (λ q. let l = ltb-true v i q in rw (q, lt-leb i v l))
     (λ q. let l = ltb-false v i q in rw (q, le-leb i v l))
 
-same_bit : (a b : Bool) → beq a b ≡ true → a ≡ b
-same_bit true true e = refl
-same_bit true false e = absurd (false≢true e)
-same_bit false true e = absurd (false≢true e)
-same_bit false false e = refl
+pub unpack-pack : (m : Marks) → unpacked (packed m) ≡ m
+unfolding packed unpacked
+unpack-pack m = go m.idle m.done m.failed m.down
+  where
+    go : (a b c d : Bool) → unpacked (packed (record { idle = a; done = b; failed = c; down = d })) ≡ record { idle = a; done = b; failed = c; down = d }
+    go true true true true = unfold packed unpacked in refl
+    go true true true false = unfold packed unpacked in refl
+    go true true false true = unfold packed unpacked in refl
+    go true true false false = unfold packed unpacked in refl
+    go true false true true = unfold packed unpacked in refl
+    go true false true false = unfold packed unpacked in refl
+    go true false false true = unfold packed unpacked in refl
+    go true false false false = unfold packed unpacked in refl
+    go false true true true = unfold packed unpacked in refl
+    go false true true false = unfold packed unpacked in refl
+    go false true false true = unfold packed unpacked in refl
+    go false true false false = unfold packed unpacked in refl
+    go false false true true = unfold packed unpacked in refl
+    go false false true false = unfold packed unpacked in refl
+    go false false false true = unfold packed unpacked in refl
+    go false false false false = unfold packed unpacked in refl
 
--- what `==` says of two nodes' marks
-pub same-marks : (m n : Marks) → (beq m.idle n.idle && (beq m.done n.done && (beq m.failed n.failed && beq m.down n.down))) ≡ true → m ≡ n
-same-marks m n e =
-    let a = (both (beq m.idle n.idle) _).0 e in
-    let b = (both (beq m.done n.done) _).0 a.1 in
-    let c = (both (beq m.failed n.failed) _).0 b.1 in
-    λ i. record { idle = same_bit _ _ a.0 i; done = same_bit _ _ b.0 i; failed = same_bit _ _ c.0 i; down = same_bit _ _ c.1 i }
+pub pack-same : (m n : Marks) → packed m ≡ packed n → m ≡ n
+pack-same m n e = sym (unpack-pack m) ∙ ap unpacked e ∙ unpack-pack n
 
 pub marks-same : (f g : ℕ → ℕ → Bool) (v : ℕ) → ((m : ℕ) → f v m ≡ g v m) → marks_at f v ≡ marks_at g v
 unfolding marks_at

@@ -1,11 +1,15 @@
 -- Which marks a node can get, on what the code holds of a node and of a block (rules F2 to F4). Definitions only.
-use Rattle.std.specs.Prelude.{Bool, true, false, ◌&&◌, ◌||◌, not, List, [], ◌∷◌, ℕ, suc, eqb}
+use Rattle.std.specs.Prelude.{Bool, true, false, cond, ◌&&◌, ◌||◌, not, List, [], ◌∷◌, ℕ, suc, ◌+◌, ◌/◌, ◌%◌, eqb}
 use Rattle.find_way.specs.declared.Marks.{Marks}
 use Rattle.find_way.specs.declared.Hope.{Hope}
 
--- F4: no marks
-abbrev pub no_marks : Marks
-no_marks = record { idle = false; done = false; failed = false; down = false }
+-- F4: the marks as one byte
+unfoldable pub packed : Marks → ℕ
+packed m = ((cond m.idle 1 0 + cond m.done 2 0) + cond m.failed 4 0) + cond m.down 8 0
+
+-- F4: the marks in a byte
+unfoldable pub unpacked : ℕ → Marks
+unpacked b = record { idle = eqb (b % 2) 1; done = eqb (b / 2 % 2) 1; failed = eqb (b / 4 % 2) 1; down = eqb (b / 8 % 2) 1 }
 
 -- F2: the kinds that go on while children work, and those that go on while they fail
 unfoldable pub as_and : ℕ → Bool

@@ -4,9 +4,8 @@ use Rattle.plan.specs.Plan.{size}
 use Rattle.plan.specs.Check.{Accepted}
 use Rattle.links.specs.Links.{Linked}
 use Rattle.way.specs.Can.{can_at, fits_of, allows_of, open_at}
-use Rattle.find_way.specs.declared.Marks.{Marks}
 use Rattle.find_way.specs.declared.Target.{Target}
-use Rattle.find_way.specs.Marks.{no_marks, marks_at}
+use Rattle.find_way.specs.Marks.{packed, unpacked, marks_at}
 
 -- H0: an accepted plan, its links, and one answer a node
 pub record Given (p first next a : List ℕ) : Type 0 where
@@ -19,24 +18,24 @@ abbrev pub able : List ℕ → List ℕ → ℕ → Target → ℕ → ℕ → B
 able p a i t v m = can_at p (fits_of a i) (allows_of t.node t.mark) v m
 
 -- Q2: the table says it of v
-abbrev pub Knows : List ℕ → List ℕ → ℕ → Target → List Marks → ℕ → Type 0
-Knows p a i t table v = get_or table v no_marks ≡ marks_at (able p a i t) v
+abbrev pub Knows : List ℕ → List ℕ → ℕ → Target → List ℕ → ℕ → Type 0
+Knows p a i t table v = get_or table v 0 ≡ packed (marks_at (able p a i t) v)
 
 -- Q2: of every node
-pub record KnowsAll (p a : List ℕ) (i : ℕ) (t : Target) (table : List Marks) : Type 0 where
+pub record KnowsAll (p a : List ℕ) (i : ℕ) (t : Target) (table : List ℕ) : Type 0 where
   pub long : length table ≡ 160
   pub each : (v : ℕ) → v < size p → Knows p a i t table v
 
 -- Q2: it said so of every node by answers that were fixed otherwise, at w alone
-pub record Knew (p a : List ℕ) (i : ℕ) (t : Target) (table : List Marks) (w : ℕ) : Type 0 where
+pub record Knew (p a : List ℕ) (i : ℕ) (t : Target) (table : List ℕ) (w : ℕ) : Type 0 where
   pub was : List ℕ
   pub upto : ℕ
   pub same : (v x : ℕ) → (v ≡ w → ⊥) → fits_of was upto v x ≡ fits_of a i v x
   pub known : KnowsAll p was upto t table
 
--- Q2: the root can get the end e, by its marks in the table
-unfoldable pub opens : Marks → ℕ → Bool
-opens m e = cond (eqb e 3) m.done m.failed
+-- Q2: the root can get the end e, by its byte in the table
+unfoldable pub opens : ℕ → ℕ → Bool
+opens b e = cond (eqb e 3) (unpacked b).done (unpacked b).failed
 
 -- Q1: a node of the plan, and an end
 pub record Wanted (p : List ℕ) (t : Target) : Type 0 where

@@ -14,27 +14,20 @@ ghost use Rattle.plan.specs.Plan.{size, kind_byte, children};
 ghost use Rattle.plan.specs.Check.{Accepted};
 ghost use Rattle.way.specs.Way.{can_want, way, way_result, found_into, way_into};
 ghost use Rattle.way.specs.Can.{fits_of};
-ghost use Rattle.find_way.specs.Marks.{no_marks, joined, unseen, hope_on, marks_by, marks_at};
+ghost use Rattle.find_way.specs.Marks.{packed, unpacked, joined, unseen, hope_on, marks_by, marks_at};
 ghost use Rattle.find_way.specs.Search.{able, opens, Given, Knows, KnowsAll, Knew, Wanted, Open, Put};
 
 use fault::Fault;
 use links::Links;
 
 // Which marks a node can get: 0, 3, 4, 5.
-#[derive(Clone, Copy, PartialEq, Eq)]
+#[derive(Drop)]
 struct Marks {
     idle: bool,
     done: bool,
     failed: bool,
     down: bool,
 }
-
-const NO_MARKS: Marks = Marks {
-    idle: false,
-    done: false,
-    failed: false,
-    down: false,
-};
 
 // What the children of a block that were seen, the first ones, leave open: none of them is reached; nothing has decided the block and
 // nothing will; nothing has decided it yet; one of them decided it; one decided it the other way, which only a conditional knows.
@@ -68,6 +61,36 @@ struct Quest<'a> {
 struct Front<'a> {
     answers: &'a [u8],
     fixed: usize,
+}
+
+// n where b holds.
+fn bit(b: bool, n: u8) -> u8
+    ensures { result ≡ cond b n 0 }
+{
+    if b { n } else { 0 }
+}
+
+// The marks as one byte.
+fn pack(m: Marks) -> u8
+    ensures { result ≡ packed m }
+{
+    let idle = bit(m.idle, 1);
+    let done = bit(m.done, 2);
+    let failed = bit(m.failed, 4);
+    let down = bit(m.down, 8);
+    idle + done + failed + down
+}
+
+// The marks in a byte.
+fn unpack(b: u8) -> Marks
+    ensures { result ≡ unpacked b }
+{
+    Marks {
+        idle: b % 2 == 1,
+        done: b / 2 % 2 == 1,
+        failed: b / 4 % 2 == 1,
+        down: b / 8 % 2 == 1,
+    }
 }
 
 // One more child; `ok`: its place may be the block's answer. This runs most often, so it has no branches: the kind is its byte, whose tests
@@ -128,9 +151,9 @@ fn allowed(front: Front, v: usize, x: u8) -> bool
 }
 
 // What v's children leave open.
-fn gather(quest: Quest, front: Front, table: &[Marks; 160], v: usize) -> Hope
+fn gather(quest: Quest, front: Front, table: &[u8; 160], v: usize) -> Hope
     requires { Given quest.plan.now quest.links.now.first quest.links.now.next front.answers.now × (v < size quest.plan.now) }
-    ensures { let p = quest.entry.plan.now in result ≡ hope_on (fits_of front.entry.answers.now front.entry.fixed v) (kind_byte p v) (λ c. get_or table.now c no_marks) 0 unseen (children p v) }
+    ensures { let p = quest.entry.plan.now in result ≡ hope_on (fits_of front.entry.answers.now front.entry.fixed v) (kind_byte p v) (λ c. unpacked (get_or table.now c 0)) 0 unseen (children p v) }
 {
     let kind = quest.plan[2 * v];
     let mut h = Hope {
@@ -145,23 +168,24 @@ fn gather(quest: Quest, front: Front, table: &[Marks; 160], v: usize) -> Hope
     while c != 0 {
         place += 1;
         let ok = allowed(front, v, place);
-        h = join(kind, ok, table[c], h);
+        let m = unpack(table[c]);
+        h = join(kind, ok, m, h);
         c = quest.links.next_sibling(c);
     }
     h
 }
 
 // The marks that v can get, where the table has those that its children can get.
-fn marks_at(quest: Quest, front: Front, table: &[Marks; 160], v: usize) -> Marks
+fn marks_at(quest: Quest, front: Front, table: &[u8; 160], v: usize) -> u8
     requires { Given quest.plan.now quest.links.now.first quest.links.now.next front.answers.now × (v < size quest.plan.now) × ((c : ℕ) → In c (children quest.plan.now v) → Knows quest.plan.now front.answers.now front.fixed quest.target table.now c) }
-    ensures { result ≡ marks_at (able quest.entry.plan.now front.entry.answers.now front.entry.fixed quest.entry.target) v }
+    ensures { result ≡ packed (marks_at (able quest.entry.plan.now front.entry.answers.now front.entry.fixed quest.entry.target) v) }
 {
     let h = gather(quest, front, table, v);
     let zero = allowed(front, v, 0);
     let one = allowed(front, v, 1);
     let two = allowed(front, v, 2);
     let target = quest.target;
-    finish(
+    let m = finish(
         quest.plan[2 * v],
         zero,
         one,
@@ -169,11 +193,12 @@ fn marks_at(quest: Quest, front: Front, table: &[Marks; 160], v: usize) -> Marks
         h,
         v != target.node,
         target.mark,
-    )
+    );
+    pack(m)
 }
 
 // Leaves in the table the marks that every node can get.
-fn fill(quest: Quest, front: Front, table: &mut [Marks; 160])
+fn fill(quest: Quest, front: Front, table: &mut [u8; 160])
     requires { Given quest.plan.now quest.links.now.first quest.links.now.next front.answers.now × (length table.old ≡ 160) }
     ensures { KnowsAll quest.entry.plan.now front.entry.answers.now front.entry.fixed quest.entry.target table.new }
 {
@@ -184,7 +209,7 @@ fn fill(quest: Quest, front: Front, table: &mut [Marks; 160])
 
 // The same, where only the answer of `node` is another than when the table was made. Above a node that can get what it could before,
 // nothing changes.
-fn climb(quest: Quest, front: Front, table: &mut [Marks; 160], node: usize)
+fn climb(quest: Quest, front: Front, table: &mut [u8; 160], node: usize)
     requires { Given quest.plan.now quest.links.now.first quest.links.now.next front.answers.now × (node < size quest.plan.now) × Knew quest.plan.now front.answers.now front.fixed quest.target table.old node }
     ensures { KnowsAll quest.entry.plan.now front.entry.answers.now front.entry.fixed quest.entry.target table.new }
 {
@@ -203,15 +228,15 @@ fn climb(quest: Quest, front: Front, table: &mut [Marks; 160], node: usize)
 }
 
 // Whether the root can get the end that is wanted.
-fn is_open(table: &[Marks; 160], end: u32) -> bool
-    ensures { result ≡ opens (get_or table.now 0 no_marks) end }
+fn is_open(table: &[u8; 160], end: u32) -> bool
+    ensures { result ≡ opens (get_or table.now 0 0) end }
 {
-    let m = table[0];
+    let m = unpack(table[0]);
     if end == 3 { m.done } else { m.failed }
 }
 
 // Puts at i the first byte with which some answers still lead there.
-fn choose(quest: Quest, answers: &mut [u8], i: usize, table: &mut [Marks; 160])
+fn choose(quest: Quest, answers: &mut [u8], i: usize, table: &mut [u8; 160])
     requires { Given quest.plan.now quest.links.now.first quest.links.now.next answers.old × Open quest.plan.now quest.target answers.old i × KnowsAll quest.plan.now answers.old i quest.target table.old }
     ensures { let p = quest.entry.plan.now in let t = quest.entry.target in Put p t answers.old i answers.new × KnowsAll p answers.new (i + 1) t table.new }
 {
@@ -240,7 +265,7 @@ fn search(plan: &[u8], target: Target, answers: &mut [u8]) -> Result<(), Fault>
         target,
     };
     let front = Front { answers, fixed: 0 };
-    let mut table = [NO_MARKS; 160];
+    let mut table = [0u8; 160];
     fill(quest, front, &mut table);
     if !is_open(&table, target.end) {
         return Err(Fault::NoWay);

@@ -1,6 +1,5 @@
 -- Assumes nothing.
 use Rattle.std.proofs.Common.{◌≡◌, pred, ◌+◌, ◌*◌, ◌-◌, eqb, ap, arith, eq-eqb, ne_eqb, add-one}
-use borrow.Author.Tests.{le-leb, lt-leb}
 use Rattle.depth_form.specs.Form.{depth_at, level_ok}
 use Rattle.convert.proofs.level_ok.Goals as goal
 
@@ -12,13 +11,9 @@ pub overflow_add-result : goal.overflow_add-result
 unfolding depth_at
 overflow_add-result c = omega (arith, c.depth_at-before.ensures, c.type_inv.depths (2 * (c.args.v - 1) + 1))
 
-pub returns-then-e-ge2 : goal.returns-then-e-ge2
+pub returns : goal.returns
 unfolding level_ok
-returns-then-e-ge2 c =
+returns c =
     let n = c.if-v-eq0.false in
     let s : pred c.args.v ≡ c.args.v - 1 = omega arith in
-    rw (ne_eqb _ _ n, s, ← c.depth_at-e.ensures, ← c.depth_at-before.ensures, le-leb _ _ c.if-e-ge2.true, add-one)
-
-pub returns-else-e-ge2 : goal.returns-else-e-ge2
-unfolding level_ok
-returns-else-e-ge2 c = rw (ne_eqb _ _ c.if-v-eq0.false, ← c.depth_at-e.ensures, lt-leb _ _ c.if-e-ge2.false)
+    rw (ne_eqb _ _ n, s, ← c.depth_at-e.ensures, ← c.depth_at-before.ensures, add-one)

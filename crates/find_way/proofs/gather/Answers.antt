@@ -35,7 +35,7 @@ loop-c-smaller c = rw c.next_sibling-c.ensures (gather-less c.loop-c.invariant c
 
 pub loop-c-preserved : goal.loop-c-preserved
 unfolding kind_byte
-loop-c-preserved c = gather-turn c.loop-c.invariant c.loop-c-test.true _ _ _ c.allowed-ok.ensures c.join-h.ensures c.next_sibling-c.ensures
+loop-c-preserved c = gather-turn c.loop-c.invariant c.loop-c-test.true _ _ _ _ c.allowed-ok.ensures c.unpack-m.ensures c.join-h.ensures c.next_sibling-c.ensures
 
 pub returns : goal.returns
 returns c = sym (gather-done c.loop-c.invariant c.loop-c-test.false)

@@ -1,6 +1,8 @@
 -- The children's part, the three answers that count, and the kind. Assumes nothing.
+use mathlib.Core.Path.{◌∙◌, ap}
 use native.Mathlib.Omega.{arith}
 use Rattle.plan.specs.Plan.{kind_byte}
+use Rattle.find_way.specs.Marks.{packed}
 use Rattle.find_way.proofs.GatherLaws.{marks-known}
 use Rattle.find_way.proofs.marks_at.Goals as goal
 
@@ -26,4 +28,4 @@ pub returns : goal.returns
 unfolding kind_byte
 returns c =
     let r = c.requires in
-    marks-known c.args.quest.plan.now c.args.quest.links.now.first c.args.quest.links.now.next c.args.front.answers.now c.args.front.fixed c.args.quest.target c.args.table.now c.args.v r.0 r.1 r.2 _ _ _ _ _ c.gather-h.ensures c.allowed-zero.ensures c.allowed-one.ensures c.allowed-two.ensures c.finish.ensures
+    c.pack.ensures ∙ ap packed (marks-known c.args.quest.plan.now c.args.quest.links.now.first c.args.quest.links.now.next c.args.front.answers.now c.args.front.fixed c.args.quest.target c.args.table.now c.args.v r.0 r.1 r.2 _ _ _ _ _ c.gather-h.ensures c.allowed-zero.ensures c.allowed-one.ensures c.allowed-two.ensures c.finish-m.ensures)
