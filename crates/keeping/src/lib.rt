@@ -93,7 +93,7 @@ pub fn keep(
     let n = plan::node_count(plan);
     let fits = simulation::is_square(n, state.len()) & (*count < entries.len());
     if let Err(fault) = checker::fit(plan, fits) {
-        return Verdict::Refused(Refusal::Invalid(fault));
+        return Verdict::Refused(Refusal::Invalid(u8::from(fault)));
     }
     let lay = Layout::own(plan);
     let was = is_repeat(lay, code, node, site, state);
