@@ -53,15 +53,15 @@ pub fn step(plan: &[u8], code: u32, node: u32, row: &mut [u8]) -> Verdict
     let mut two = [0u8; 320];
     let mut marks = [255u8; 256];
     if let Err(fault) = desk_layout::check_into(plan, &mut two, &mut marks) {
-        return Verdict::Refused(Refusal::Invalid(fault));
+        return Verdict::Refused(Refusal::Invalid(u8::from(fault)));
     }
     let n = desk_layout::node_count(plan);
     if row.len() != n {
-        return Verdict::Refused(Refusal::Invalid(Fault::BadBuffer));
+        return Verdict::Refused(Refusal::Invalid(u8::from(Fault::BadBuffer)));
     }
     let two = &two[..2 * n];
     if let Err(fault) = event::check(two, true, code, node) {
-        return Verdict::Refused(Refusal::Invalid(fault));
+        return Verdict::Refused(Refusal::Invalid(u8::from(fault)));
     }
     let desk = own_desk(plan, two, code, node);
     site::decide(two, desk, code as u8, node as u8, row)
@@ -73,10 +73,10 @@ pub fn simulate(plan: &[u8], code: u32, node: u32, desk: u32, state: &mut [u8]) 
 {
     let mut desks = Desks::new();
     if let Err(fault) = desks.prepare(plan) {
-        return Verdict::Refused(Refusal::Invalid(fault));
+        return Verdict::Refused(Refusal::Invalid(u8::from(fault)));
     }
     if !desks.fits(state) {
-        return Verdict::Refused(Refusal::Invalid(Fault::BadBuffer));
+        return Verdict::Refused(Refusal::Invalid(u8::from(Fault::BadBuffer)));
     }
     let lay = desks.layout();
     let own = own_desk(plan, lay.plan, code, node);
@@ -97,10 +97,10 @@ pub fn keep(
 {
     let mut desks = Desks::new();
     if let Err(fault) = desks.prepare(plan) {
-        return Verdict::Refused(Refusal::Invalid(fault));
+        return Verdict::Refused(Refusal::Invalid(u8::from(fault)));
     }
     if !(desks.fits(state) & (*count < entries.len())) {
-        return Verdict::Refused(Refusal::Invalid(Fault::BadBuffer));
+        return Verdict::Refused(Refusal::Invalid(u8::from(Fault::BadBuffer)));
     }
     let lay = desks.layout();
     let own = own_desk(plan, lay.plan, code, node);

@@ -2,7 +2,8 @@
 // mean is specs/Journal.antt; what holds of every list of both is specs/Session.antt. No public function has a `requires`.
 #![tactic(auto)]
 
-ghost use Rattle.std.specs.Prelude.{◌≡◌, ◌-◌, ◌<◌, ltb, length, slice_get, set};
+ghost use Rattle.std.specs.Prelude.{◌≡◌, ◌-◌, ◌<◌, ltb, length, get_or, slice_get, set};
+ghost use Rattle.journal.specs.Journal.{no_entry};
 
 // A step that passed: its code, its node, the site that was told (255: the event happened), and 1 if it set a bit, 0 if that was set before.
 #[repr(C)]
@@ -24,6 +25,28 @@ pub fn append(entries: &mut [Entry], at: usize, entry: Entry) -> bool
         return true;
     }
     false
+}
+
+// The entry at a place; past the end one of zeros.
+pub fn entry_at(entries: &[Entry], at: usize) -> Entry
+    ensures { result ≡ get_or entries.now at no_entry }
+{
+    if at < entries.len() {
+        return entries[at];
+    }
+    Entry {
+        code: 0,
+        node: 0,
+        site: 0,
+        changed: 0,
+    }
+}
+
+// The place of the last of so many.
+pub fn last_place(count: usize) -> usize
+    ensures { result ≡ count - 1 }
+{
+    if count == 0 { 0 } else { count - 1 }
 }
 
 // The last of so many entries.

@@ -9,13 +9,25 @@ ghost use Rattle.plan.specs.Plan.{size};
 ghost use Rattle.site.specs.Verdict.{verdict_of, verdict_number};
 ghost use Rattle.job.specs.Simulation.{simulated};
 ghost use Rattle.layout.specs.Layout.{via, layout_by, Laid};
-ghost use Rattle.journal.specs.Journal.{target, is_set, sited, entry_fault, taken_back, kept, undone};
+ghost use Rattle.journal.specs.Journal.{no_entry, target, is_set, sited, entry_fault, taken_back, kept, undone};
 ghost use Rattle.keeping.specs.Keeping.{KeptBy, keep_own, undo_own};
 
 use fault::Fault;
 use journal::Entry;
 use layout::Layout;
 use site::{Refusal, Report, Verdict};
+
+// An entry of zeros.
+pub fn no_entry() -> Entry
+    ensures { result ≡ no_entry }
+{
+    Entry {
+        code: 0,
+        node: 0,
+        site: 0,
+        changed: 0,
+    }
+}
 
 // A message that is a repeat: its bit is set in the row of the site that it tells. Of what is no event of the plan no bit is, and an event is no message.
 pub fn is_repeat(lay: Layout, code: u32, node: u32, site: u32, state: &[u8]) -> bool
@@ -93,7 +105,7 @@ pub fn keep(
     let n = plan::node_count(plan);
     let fits = simulation::is_square(n, state.len()) & (*count < entries.len());
     if let Err(fault) = checker::fit(plan, fits) {
-        return Verdict::Refused(Refusal::Invalid(fault));
+        return Verdict::Refused(Refusal::Invalid(u8::from(fault)));
     }
     let lay = Layout::own(plan);
     let was = is_repeat(lay, code, node, site, state);

@@ -57,7 +57,7 @@ fn happen(lay: Layout, code: u32, node: u32, state: &mut [u8]) -> Verdict
 {
     let plan = lay.plan;
     if let Err(fault) = event::check(plan, true, code, node) {
-        return Verdict::Refused(Refusal::Invalid(fault));
+        return Verdict::Refused(Refusal::Invalid(u8::from(fault)));
     }
     let n = plan::node_count(plan);
     let k = code as u8;
@@ -75,7 +75,7 @@ fn tell(lay: Layout, code: u32, node: u32, q: usize, state: &mut [u8]) -> Verdic
 {
     let plan = lay.plan;
     if let Err(fault) = event::check(plan, q < lay.rows, code, node) {
-        return Verdict::Refused(Refusal::Invalid(fault));
+        return Verdict::Refused(Refusal::Invalid(u8::from(fault)));
     }
     let n = plan::node_count(plan);
     let v = node as usize;

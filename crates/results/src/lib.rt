@@ -56,7 +56,7 @@ pub fn of_refusal(why: Refusal) -> u32
     ensures { result ≡ of_verdict (Refused (refusal_of why)) }
 {
     match why {
-        Refusal::Invalid(fault) => of_fault(fault),
+        Refusal::Invalid(number) => packed(number, 0),
         Refusal::Barred(q) => packed(10, q),
         Refusal::Unmet(q) => packed(11, q),
         Refusal::Untrue => 12,

@@ -39,7 +39,7 @@ pub fn simulate(plan: &[u8], code: u32, node: u32, site: u32, state: &mut [u8]) 
 {
     let n = plan::node_count(plan);
     if let Err(fault) = checker::fit(plan, is_square(n, state.len())) {
-        return Verdict::Refused(Refusal::Invalid(fault));
+        return Verdict::Refused(Refusal::Invalid(u8::from(fault)));
     }
     advance(plan, code, node, site, state)
 }

@@ -1,7 +1,6 @@
 -- The verdict of a step or a message, and the report of every verdict: its number, its site and its rule (rules C10, H0 to H12, H16, H17 and K1).
 -- Definitions only.
 use Rattle.std.specs.Prelude.{ℕ}
-use Rattle.fault.specs.Number.{fault_number}
 use Rattle.site.specs.declared.PassedEvent.{PassedEvent}
 use Rattle.site.specs.declared.Report.{Report}
 use Rattle.site.specs.declared.Refusal.{Refusal as AnsweredRefusal}
@@ -23,9 +22,9 @@ pub data Verdict : Type 0 where
   Heard : Verdict
   Refused : Refusal → Verdict
 
--- H1 to H9: the same of what a call answers, whose fault has its number
+-- H1 to H12: the same of what a call answers
 abbrev pub refusal_of : AnsweredRefusal → Refusal
-refusal_of (why.Invalid f) = Invalid (fault_number f)
+refusal_of (why.Invalid n) = Invalid n
 refusal_of (why.Barred q) = Barred q
 refusal_of (why.Unmet q) = Unmet q
 refusal_of why.Untrue = Untrue

@@ -1,6 +1,6 @@
 // What one site does: it steps an event on its own row, and hears of events that happened elsewhere. What a step and a message mean is
-// specs/Step.antt: one equation for the answer and every lent byte. A call of `step` or `hear` that is not valid is refused with the test that failed;
-// `decide` is the part of a step behind the tests, for callers that have made them.
+// specs/Step.antt: one equation for the answer and every lent byte. A call of `step` or `hear` that is not valid is refused with the number of the
+// test that failed; `decide` is the part of a step behind the tests, for callers that have made them.
 #![tactic(auto)]
 
 ghost use Rattle.std.specs.Prelude.{◌≡◌, ◌<◌};
@@ -8,8 +8,6 @@ ghost use Rattle.plan.specs.Plan.{size};
 ghost use Rattle.plan.specs.Check.{Accepted};
 ghost use Rattle.site.specs.Verdict.{verdict_of, reported, report_of};
 ghost use Rattle.site.specs.Step.{stepped, decide, step_of, hear_of};
-
-use fault::Fault;
 
 // An event that passed, with its site and the rule behind its guard.
 #[derive(Clone, Copy)]
@@ -20,11 +18,12 @@ pub struct PassedEvent {
     pub rule: u8,
 }
 
-// Why a call is refused: it is invalid, with the test that failed; the event is barred or its guard unmet, with the event's site; or a message tells of what did not happen,
-// which the simulation alone can know.
+// Why a call is refused: it is invalid, with the number of the test that failed; the event is barred or its guard unmet, with the event's site; or a
+// message tells of what did not happen, which the simulation alone can know.
 #[derive(Clone, Copy)]
 pub enum Refusal {
-    Invalid(Fault),
+    // a number and no `Fault`: functions that take a refusal take any
+    Invalid(u8),
     Barred(u8),
     Unmet(u8),
     Untrue,
@@ -60,7 +59,7 @@ impl From<Verdict> for Report {
         match v {
             Verdict::Passed(e) => reported(0, e.site, e.rule),
             Verdict::Heard => reported(0, 0, 0),
-            Verdict::Refused(Refusal::Invalid(fault)) => reported(u8::from(fault), 0, 0),
+            Verdict::Refused(Refusal::Invalid(number)) => reported(number, 0, 0),
             Verdict::Refused(Refusal::Barred(site)) => reported(10, site, 0),
             Verdict::Refused(Refusal::Unmet(site)) => reported(11, site, 0),
             Verdict::Refused(Refusal::Untrue) => reported(12, 0, 0),
@@ -74,7 +73,7 @@ pub fn hear(plan: &[u8], code: u32, node: u32, row: &mut [u8]) -> Verdict
 {
     let n = plan::node_count(plan);
     if let Err(fault) = event::validate(plan, row.len() == n, true, code, node) {
-        return Verdict::Refused(Refusal::Invalid(fault));
+        return Verdict::Refused(Refusal::Invalid(u8::from(fault)));
     }
     row::set_heard(row, code as u8, node as u8);
     Verdict::Heard
@@ -107,7 +106,7 @@ pub fn step(plan: &[u8], code: u32, node: u32, row: &mut [u8]) -> Verdict
 {
     let fits = row.len() == plan::node_count(plan);
     if let Err(fault) = event::validate(plan, fits, true, code, node) {
-        return Verdict::Refused(Refusal::Invalid(fault));
+        return Verdict::Refused(Refusal::Invalid(u8::from(fault)));
     }
     let k = code as u8;
     let v = node as u8;

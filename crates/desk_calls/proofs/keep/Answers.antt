@@ -7,13 +7,13 @@ use Rattle.desk_calls.proofs.CallLaws.{keep-refused, keep-tested, keep-wrong, ke
 use Rattle.desk_calls.proofs.keep.Goals as goal
 
 pub returns-in-Err : goal.returns-in-Err
-returns-in-Err c = keep-refused _ _ c.in-Err.ensures.number_value (fault-some _) _ _ _ _ _ _
+returns-in-Err c = rw c.from.ensures (keep-refused _ _ c.in-Err.ensures.number_value (fault-some _) _ _ _ _ _ _)
 
 pub fits-requires : goal.fits-requires
 fits-requires c = desks-few c.in_default.ensures.prepared _ c.in_default.ensures.counted
 
 pub returns-then-not-fits-count : goal.returns-then-not-fits-count
-returns-then-not-fits-count c = keep-wrong _ _ _ _ _ c.in_default.ensures.prepared _ c.in_default.ensures.counted _ _ _ (rw c.fits.ensures at c.if-not-fits-count.true) _ _ _
+returns-then-not-fits-count c = rw c.from-then-not-fits-count.ensures (keep-wrong _ _ _ _ _ c.in_default.ensures.prepared _ c.in_default.ensures.counted _ _ _ (rw c.fits.ensures at c.if-not-fits-count.true) _ _ _)
 
 pub layout-lay-requires : goal.layout-lay-requires
 layout-lay-requires c = (desks-few c.in_default.ensures.prepared _ c.in_default.ensures.counted).0

@@ -8,13 +8,13 @@ use Rattle.desk_calls.proofs.CallLaws.{simulate-refused, simulate-wrong, simulat
 use Rattle.desk_calls.proofs.simulate.Goals as goal
 
 pub returns-in-Err : goal.returns-in-Err
-returns-in-Err c = simulate-refused _ _ c.in-Err.ensures.number_value (fault-some _) _ _ _ _
+returns-in-Err c = rw c.from.ensures (simulate-refused _ _ c.in-Err.ensures.number_value (fault-some _) _ _ _ _)
 
 pub fits-requires : goal.fits-requires
 fits-requires c = desks-few c.in_default.ensures.prepared _ c.in_default.ensures.counted
 
 pub returns-then-not-fits : goal.returns-then-not-fits
-returns-then-not-fits c = simulate-wrong _ _ _ _ _ c.in_default.ensures.prepared _ c.in_default.ensures.counted _ (eqb-false _ _ (sym c.fits.ensures ∙ c.if-not-fits.true)) _ _ _
+returns-then-not-fits c = rw c.from-then-not-fits.ensures (simulate-wrong _ _ _ _ _ c.in_default.ensures.prepared _ c.in_default.ensures.counted _ (eqb-false _ _ (sym c.fits.ensures ∙ c.if-not-fits.true)) _ _ _)
 
 pub layout-lay-requires : goal.layout-lay-requires
 layout-lay-requires c = (desks-few c.in_default.ensures.prepared _ c.in_default.ensures.counted).0

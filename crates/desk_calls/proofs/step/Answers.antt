@@ -7,10 +7,10 @@ use Rattle.desk_calls.proofs.CallLaws.{step-refused, step-wrong, step-fault, ste
 use Rattle.desk_calls.proofs.step.Goals as goal
 
 pub returns-in-Err : goal.returns-in-Err
-returns-in-Err c = step-refused _ _ c.in-Err.ensures.number_value (fault-some _) _ _ _
+returns-in-Err c = rw c.from.ensures (step-refused _ _ c.in-Err.ensures.number_value (fault-some _) _ _ _)
 
 pub returns-then-row-n : goal.returns-then-row-n
-returns-then-row-n c = step-wrong _ _ (check-accepts _ (sym c.in_default.ensures.number_value)) c.in_default.ensures.two_after.0 _ c.node_count-n.ensures _ _ _ c.if-row-n.true
+returns-then-row-n c = rw c.from-then-row-n.ensures (step-wrong _ _ (check-accepts _ (sym c.in_default.ensures.number_value)) c.in_default.ensures.two_after.0 _ c.node_count-n.ensures _ _ _ c.if-row-n.true)
 
 pub slice_bounds-two-end : goal.slice_bounds-two-end
 slice_bounds-two-end c = front-room _ _ c.in_default.ensures.two_after.0 _ c.node_count-n.ensures
@@ -22,7 +22,7 @@ pub check-requires : goal.check-requires
 check-requires c = let k = (check-accepts _ (sym c.in_default.ensures.number_value)) in rw (front-is _ _ c.in_default.ensures.two_after.0 _ c.node_count-n.ensures) k.accepted.few
 
 pub returns-in-Err-check : goal.returns-in-Err-check
-returns-in-Err-check c = step-fault _ _ (check-accepts _ (sym c.in_default.ensures.number_value)) c.in_default.ensures.two_after.0 _ c.node_count-n.ensures _ _ _ c.if-row-n.false _ c.in-Err-check.ensures (fault-some _)
+returns-in-Err-check c = rw c.from-in-Err-check.ensures (step-fault _ _ (check-accepts _ (sym c.in_default.ensures.number_value)) c.in_default.ensures.two_after.0 _ c.node_count-n.ensures _ _ _ c.if-row-n.false _ c.in-Err-check.ensures (fault-some _))
 
 pub own_desk-desk-requires : goal.own_desk-desk-requires
 own_desk-desk-requires c = ((check-accepts _ (sym c.in_default.ensures.number_value)), front-is _ _ c.in_default.ensures.two_after.0 _ c.node_count-n.ensures)

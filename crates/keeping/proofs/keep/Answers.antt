@@ -6,7 +6,7 @@ use Rattle.keeping.proofs.OwnLaws.{keep-unfit, keep-laid, as-laid, as-wide}
 use Rattle.keeping.proofs.keep.Goals as goal
 
 pub returns-in-Err : goal.returns-in-Err
-returns-in-Err c = keep-unfit _ _ c.node_count-n.ensures _ _ _ _ c.is_square.ensures _ c.in-Err.ensures (fault-some _) _ _ _
+returns-in-Err c = rw c.from.ensures (keep-unfit _ _ c.node_count-n.ensures _ _ _ _ c.is_square.ensures _ c.in-Err.ensures (fault-some _) _ _ _)
 
 pub is_repeat-was-requires : goal.is_repeat-was-requires
 is_repeat-was-requires c =

@@ -10,7 +10,7 @@ pub check-requires : goal.check-requires
 check-requires c = c.requires.plan.few
 
 pub returns-in-Err : goal.returns-in-Err
-returns-in-Err c = happen-refused _ _ _ c.requires _ _ _ c.in-Err.ensures (fault-some _)
+returns-in-Err c = rw c.from.ensures (happen-refused _ _ _ c.requires _ _ _ c.in-Err.ensures (fault-some _))
 
 pub overflow_cast-k : goal.overflow_cast-k
 overflow_cast-k c = let f = event-fine _ _ _ c.requires _ _ (sym c.in_default.ensures) in omega (arith, f.high)
@@ -21,27 +21,27 @@ overflow_cast-v c = let f = event-fine _ _ _ c.requires _ _ (sym c.in_default.en
 pub overflow_mul-a : goal.overflow_mul-a
 unfolding site_of layout_by
 overflow_mul-a c =
-    let below = site-below _ _ _ c.requires _ _ (sym c.in_default.ensures) _ (c.via-q.ensures ∙ ap (via _) (c.from.ensures ∙ c.host.ensures)) in
+    let below = site-below _ _ _ c.requires _ _ (sym c.in_default.ensures) _ (c.via-q.ensures ∙ ap (via _) (c.from-2.ensures ∙ c.host.ensures)) in
     let end = row-end _ _ _ c.requires c.args.code c.args.node _ _ c.node_count-n.ensures below in
     omega (arith, end)
 
 pub overflow_add-e : goal.overflow_add-e
 unfolding site_of layout_by
 overflow_add-e c =
-    let below = site-below _ _ _ c.requires _ _ (sym c.in_default.ensures) _ (c.via-q.ensures ∙ ap (via _) (c.from.ensures ∙ c.host.ensures)) in
+    let below = site-below _ _ _ c.requires _ _ (sym c.in_default.ensures) _ (c.via-q.ensures ∙ ap (via _) (c.from-2.ensures ∙ c.host.ensures)) in
     let end = row-end _ _ _ c.requires c.args.code c.args.node _ _ c.node_count-n.ensures below in
     omega (arith, end)
 
 pub overflow_cast-q : goal.overflow_cast-q
 unfolding site_of layout_by
 overflow_cast-q c =
-    let below = site-below _ _ _ c.requires _ _ (sym c.in_default.ensures) _ (c.via-q.ensures ∙ ap (via _) (c.from.ensures ∙ c.host.ensures)) in
+    let below = site-below _ _ _ c.requires _ _ (sym c.in_default.ensures) _ (c.via-q.ensures ∙ ap (via _) (c.from-2.ensures ∙ c.host.ensures)) in
     omega (arith, below, c.requires.few)
 
 pub slice_bounds-decide-end : goal.slice_bounds-decide-end
 unfolding site_of layout_by
 slice_bounds-decide-end c =
-    let below = site-below _ _ _ c.requires _ _ (sym c.in_default.ensures) _ (c.via-q.ensures ∙ ap (via _) (c.from.ensures ∙ c.host.ensures)) in
+    let below = site-below _ _ _ c.requires _ _ (sym c.in_default.ensures) _ (c.via-q.ensures ∙ ap (via _) (c.from-2.ensures ∙ c.host.ensures)) in
     row-end _ _ _ c.requires c.args.code c.args.node _ _ c.node_count-n.ensures below
 
 pub decide-requires : goal.decide-requires
@@ -50,4 +50,4 @@ decide-requires c = let f = event-fine _ _ _ c.requires _ _ (sym c.in_default.en
 pub returns : goal.returns
 unfolding site_of layout_by
 returns c =
-    happen-decided _ _ _ c.requires _ _ (sym c.in_default.ensures) _ (c.via-q.ensures ∙ ap (via _) (c.from.ensures ∙ c.host.ensures)) _ _ c.node_count-n.ensures (part-width _ _) _ _ c.decide.ensures
+    happen-decided _ _ _ c.requires _ _ (sym c.in_default.ensures) _ (c.via-q.ensures ∙ ap (via _) (c.from-2.ensures ∙ c.host.ensures)) _ _ c.node_count-n.ensures (part-width _ _) _ _ c.decide.ensures

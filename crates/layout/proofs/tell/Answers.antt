@@ -11,7 +11,7 @@ check-requires c = c.requires.plan.few
 
 pub returns-in-Err : goal.returns-in-Err
 unfolding layout_by
-returns-in-Err c = tell-refused _ _ _ c.requires _ _ _ _ c.in-Err.ensures (fault-some _)
+returns-in-Err c = rw c.from.ensures (tell-refused _ _ _ c.requires _ _ _ _ c.in-Err.ensures (fault-some _))
 
 pub overflow_cast-code : goal.overflow_cast-code
 unfolding layout_by
@@ -26,7 +26,7 @@ unfolding site_of layout_by
 overflow_mul-h c =
     let none = sym c.in_default.ensures in
     let f = message-fine _ _ _ c.requires _ _ _ none in
-    let below = home_below _ _ _ c.requires _ _ _ none _ _ c.node_count-n.ensures (c.via-h.ensures ∙ ap (via _) (c.from.ensures ∙ c.host.ensures)) in
+    let below = home_below _ _ _ c.requires _ _ _ none _ _ c.node_count-n.ensures (c.via-h.ensures ∙ ap (via _) (c.from-2.ensures ∙ c.host.ensures)) in
     let spot = row-spot _ _ _ c.requires c.args.code _ _ _ c.node_count-n.ensures below f.node_in in
     omega (arith, spot)
 
@@ -35,7 +35,7 @@ unfolding site_of layout_by
 overflow_add-h c =
     let none = sym c.in_default.ensures in
     let f = message-fine _ _ _ c.requires _ _ _ none in
-    let below = home_below _ _ _ c.requires _ _ _ none _ _ c.node_count-n.ensures (c.via-h.ensures ∙ ap (via _) (c.from.ensures ∙ c.host.ensures)) in
+    let below = home_below _ _ _ c.requires _ _ _ none _ _ c.node_count-n.ensures (c.via-h.ensures ∙ ap (via _) (c.from-2.ensures ∙ c.host.ensures)) in
     let spot = row-spot _ _ _ c.requires c.args.code _ _ _ c.node_count-n.ensures below f.node_in in
     omega (arith, spot)
 
@@ -44,7 +44,7 @@ unfolding site_of layout_by
 bounds-state-h c =
     let none = sym c.in_default.ensures in
     let f = message-fine _ _ _ c.requires _ _ _ none in
-    let below = home_below _ _ _ c.requires _ _ _ none _ _ c.node_count-n.ensures (c.via-h.ensures ∙ ap (via _) (c.from.ensures ∙ c.host.ensures)) in
+    let below = home_below _ _ _ c.requires _ _ _ none _ _ c.node_count-n.ensures (c.via-h.ensures ∙ ap (via _) (c.from-2.ensures ∙ c.host.ensures)) in
     let spot = row-spot _ _ _ c.requires c.args.code _ _ _ c.node_count-n.ensures below f.node_in in
     omega (arith, spot)
 
@@ -55,7 +55,7 @@ overflow_cast-code-2 c = let f = message-fine _ _ _ c.requires _ _ _ (sym c.in_d
 pub returns-then-not-has_bit : goal.returns-then-not-has_bit
 unfolding site_of layout_by
 returns-then-not-has_bit c =
-    tell-false _ _ _ c.requires _ _ _ (sym c.in_default.ensures) _ _ c.node_count-n.ensures (c.via-h.ensures ∙ ap (via _) (c.from.ensures ∙ c.host.ensures)) (sym c.has_bit.ensures ∙ c.if-not-has_bit.true)
+    tell-false _ _ _ c.requires _ _ _ (sym c.in_default.ensures) _ _ c.node_count-n.ensures (c.via-h.ensures ∙ ap (via _) (c.from-2.ensures ∙ c.host.ensures)) (sym c.has_bit.ensures ∙ c.if-not-has_bit.true)
 
 pub overflow_mul-at : goal.overflow_mul-at
 unfolding layout_by
@@ -96,4 +96,4 @@ bounds-state-at-2 c =
 pub returns : goal.returns
 unfolding site_of layout_by
 returns c =
-    tell-done _ _ _ c.requires _ _ _ (sym c.in_default.ensures) _ _ c.node_count-n.ensures (c.via-h.ensures ∙ ap (via _) (c.from.ensures ∙ c.host.ensures)) (sym c.has_bit.ensures ∙ c.if-not-has_bit.false) _ c.with_bit.ensures
+    tell-done _ _ _ c.requires _ _ _ (sym c.in_default.ensures) _ _ c.node_count-n.ensures (c.via-h.ensures ∙ ap (via _) (c.from-2.ensures ∙ c.host.ensures)) (sym c.has_bit.ensures ∙ c.if-not-has_bit.false) _ c.with_bit.ensures

@@ -5,7 +5,7 @@ use Rattle.simulation.proofs.OwnLaws.{step-unfit, step-laid}
 use Rattle.simulation.proofs.simulate.Goals as goal
 
 pub returns-in-Err : goal.returns-in-Err
-returns-in-Err c = step-unfit _ _ _ c.node_count-n.ensures _ c.is_square.ensures _ c.in-Err.ensures (fault-some _) _ _ _
+returns-in-Err c = rw c.from.ensures (step-unfit _ _ _ c.node_count-n.ensures _ c.is_square.ensures _ c.in-Err.ensures (fault-some _) _ _ _)
 
 pub advance-requires : goal.advance-requires
 advance-requires c = step-laid _ _ _ c.node_count-n.ensures _ c.is_square.ensures _ c.in_default.ensures refl

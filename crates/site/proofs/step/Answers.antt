@@ -6,7 +6,7 @@ use Rattle.site.proofs.StepLaws.{tested, step-tested, step-invalid, step-valid}
 use Rattle.site.proofs.step.Goals as goal
 
 pub returns-in-Err : goal.returns-in-Err
-returns-in-Err c = step-invalid _ _ _ _ _ _ (tested _ _ _ _ c.in-Err.ensures c.node_count.ensures) (fault-some _)
+returns-in-Err c = rw c.from.ensures (step-invalid _ _ _ _ _ _ (tested _ _ _ _ c.in-Err.ensures c.node_count.ensures) (fault-some _))
 
 pub overflow_cast-k : goal.overflow_cast-k
 overflow_cast-k c = let k = step-tested _ _ _ _ (sym (tested _ _ _ _ c.in_default.ensures c.node_count.ensures)) in omega arith
