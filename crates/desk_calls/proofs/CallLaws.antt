@@ -6,7 +6,8 @@ use Prim.Native.Nat.{ℕ, ◌*◌, ◌≤◌, ◌<◌}
 use native.Mathlib.Omega.{arith}
 use borrow.Author.Tests.{ne_eqb, eq-eqb, eqb-true, eqb-false, ltb-true, lt-ltb, le-leb, leb-true}
 use lib.Dec.{eqb, ltb, leb}
-use lib.ListN.{length, take}
+use lib.ListN.{length, take, set}
+use lib.Seq.{set_out}
 use Rattle.lists.proofs.Logic.{cases, decided, and_left, and_right, and-join}
 use Rattle.plan.specs.Plan.{size}
 use Rattle.plan.specs.Check.{fit_number}
@@ -19,6 +20,7 @@ use Rattle.retention.specs.Record.{table_number, recorded, classes_into}
 use Rattle.site.specs.Verdict.{Invalid}
 use Rattle.site.specs.Verdict.{Verdict}
 use Rattle.site.specs.Verdict.{Refused}
+use Rattle.site.specs.Verdict.{verdict_number}
 use Rattle.site.specs.Step.{Stepped, stepped, step_invalid, decide, step_at}
 use Rattle.site.proofs.StepLaws.{step-tested, step-valid, step-invalid}
 use Rattle.job.specs.Simulation.{step_by, Simulated, simulated, state_fits, simulate, end_marks}
@@ -28,18 +30,20 @@ use Rattle.layout.proofs.StepLaws.{simulate-event, simulate-message, happen-refu
 use Rattle.simulation.specs.Run.{record_number, record_by_on}
 use Rattle.simulation.proofs.RecordLaws.{record-refused, record-done}
 use Rattle.journal.specs.declared.Entry.{Entry}
-use Rattle.journal.specs.Journal.{Kept, kept, Undone, undone, step_on, keep_fits, keep_of, undo_fits, undo_number, undo_of}
+use Rattle.journal.specs.Journal.{Kept, kept, step_on, keep_fits, keep_of, undo_fits, undo_number, undo_of}
 use Rattle.journal.proofs.UndoLaws.{keep-room}
+use Rattle.keeping.specs.Keeping.{Keeps, KeptBy, Undoes}
 use Rattle.points.specs.Points.{points, points_fit}
 use Rattle.rewind.specs.Return.{Returned, returned, point_undo_fits, point_undo_of, back_fits, point_back_of}
 use Rattle.desks.specs.Desk.{nodes, plain, desk_check, DeskAccepted, desk_row, desk_layout}
 use Rattle.desks.specs.Calls.{own_desk, at_desk, step_at_desk, kept_at_desk, desk_step_of, desk_simulate_of, desk_keep_of, desk_undo_of, desk_point_undo_of, desk_point_back_of, desk_record_by_into}
 use Rattle.desks.proofs.DeskLaws.{same_nodes}
-use Rattle.desks.proofs.CallLaws.{on-plain, desk-step, keep-plain, undo-plain, point-undo-plain, point-back-plain, record-plain}
+use Rattle.desks.proofs.CallLaws.{at-number, on-plain, desk-step, keep-plain, undo-plain, point-undo-plain, point-back-plain, record-plain}
 use Rattle.desks.proofs.AlikeLaws.{step-alike, keep-alike, undo-alike, point-undo-alike, point-back-alike, marks-alike}
 use Rattle.desk_layout.specs.Tables.{Prepared}
 use Rattle.desk_layout.proofs.PrepareLaws.{front-is}
 use Rattle.desk_layout.proofs.LayoutLaws.{alike, plan-is, laid-plain, fits-is}
+use Rattle.desk_calls.specs.Entries.{DeskKeeps, DeskUndoes}
 
 -- a valid event is known
 known_by : (p : List ℕ) (code node : ℕ) {a b : Bool} → Valid p a b code node → known p code node ≡ true
@@ -59,13 +63,13 @@ module _ (p : List ℕ) (r : ℕ) (told : r ≡ desk_check p) (bad : r ≡ 0 →
   unfolding desk_simulate_of
   simulate-refused code node desk st = rw (refuses, told)
 
-  pub keep-refused : (st : List ℕ) (es : List Entry) (k code node desk : ℕ) → desk_keep_of p st es k code node desk ≡ kept (simulated st (Refused (Invalid r))) es k
+  pub keep-refused : (st : List ℕ) (len k code node desk : ℕ) (e : Entry) → DeskKeeps p st len k code node desk (Refused (Invalid r)) len e st k
   unfolding desk_keep_of
-  keep-refused st es k code node desk = rw (refuses, told)
+  keep-refused st len k code node desk e es long = rw (refuses, told, set_out es len e (omega arith))
 
-  pub undo-refused : (st : List ℕ) (es : List Entry) (k : ℕ) → desk_undo_of p st es k ≡ undone r st k
+  pub undo-refused : (st : List ℕ) (len k : ℕ) (e : Entry) → DeskUndoes p st len k e r st k
   unfolding desk_undo_of
-  undo-refused st es k = rw (refuses, told)
+  undo-refused st len k e es long last = rw (refuses, told)
 
   pub point-undo-refused : (st : List ℕ) (es : List Entry) (k : ℕ) (names places : List ℕ) → desk_point_undo_of p st es k names places ≡ returned r st k (points names places)
   unfolding desk_point_undo_of
@@ -82,6 +86,14 @@ module _ (p : List ℕ) (r : ℕ) (told : r ≡ desk_check p) (bad : r ≡ 0 →
 pub table-first : (p tab st m c : List ℕ) (r : ℕ) → r ≡ table_number tab → (r ≡ 0 → ⊥) → desk_record_by_into p tab st m c ≡ recorded r m c
 unfolding desk_record_by_into
 table-first p tab st m c r told bad = rw (ne_eqb (table_number tab) 0 (λ z. bad (told ∙ z)), told)
+
+-- what is kept of a verdict that names the desk is what is kept of the verdict
+module _ (v w : Verdict) (d : ℕ) (is : w ≡ at_desk d v) where
+  pub same_number : verdict_number w ≡ verdict_number v
+  same_number = ap (λ (x : Verdict). verdict_number x) is ∙ at-number d v
+
+  pub kept-as : (was : Bool) (code node site len k : ℕ) (told : Verdict) (at : ℕ) (e : Entry) (k' : ℕ) → KeptBy w was code node site len k told at e k' → KeptBy v was code node site len k v at e k'
+  kept-as was code node site len k told at e k' by = record { same = refl; stored = λ z. by.stored (same_number ∙ z); left = λ h. by.left (λ z. h (sym same_number ∙ z)) }
 
 -- A DESK'S STEP behind the check: n is the code's number of nodes
 module _ (p two : List ℕ) (ok : DeskAccepted p) (front : take (2 * nodes p) two ≡ plain p) (n : ℕ) (e : n ≡ nodes p) (code node : ℕ) (row : List ℕ) where
@@ -166,17 +178,17 @@ module _ (p : List ℕ) (rows : ℕ) (two home row : List ℕ) (s : Prepared p r
       let f = seven (state_fits (plain p) (desk_layout p) st) (fits-is s n e st ∙ ne_eqb (length st) (rows * n) w) in
       on-plain p ok code node desk st ∙ rw (unfit-refused (plain p) (desk_layout p) st (step_by (desk_row p) code node desk) 7 (sym f) (λ z. absurd (omega arith)))
 
-  pub keep-wrong : (st : List ℕ) (es : List Entry) (k : ℕ) → (eqb (length st) (rows * n) && ltb k (length es)) ≡ false → (code node desk : ℕ) →
-      desk_keep_of p st es k code node desk ≡ kept (simulated st (Refused (Invalid 7))) es k
+  pub keep-wrong : (st : List ℕ) (len k : ℕ) → (eqb (length st) (rows * n) && ltb k len) ≡ false → (code node desk : ℕ) (x : Entry) →
+      DeskKeeps p st len k code node desk (Refused (Invalid 7)) len x st k
   unfolding keep_of keep_fits at_desk
-  keep-wrong st es k w code node desk =
-      let f = seven (state_fits (plain p) (desk_layout p) st && ltb k (length es)) (rw (fits-is s n e st) w) in
-      keep-plain p ok st es k code node desk ∙ rw f
+  keep-wrong st len k w code node desk x es long =
+      let f = seven (state_fits (plain p) (desk_layout p) st && ltb k (length es)) (rw (fits-is s n e st, long) w) in
+      keep-plain p ok st es k code node desk ∙ rw (f, set_out es len x (omega arith))
 
-  pub undo-wrong : (st : List ℕ) (es : List Entry) (k : ℕ) → (eqb (length st) (rows * n) && leb k (length es)) ≡ false → desk_undo_of p st es k ≡ undone 7 st k
+  pub undo-wrong : (st : List ℕ) (len k : ℕ) → (eqb (length st) (rows * n) && leb k len) ≡ false → (x : Entry) → DeskUndoes p st len k x 7 st k
   unfolding undo_of undo_number undo_fits
-  undo-wrong st es k w =
-      let f = seven (state_fits (plain p) (desk_layout p) st && leb k (length es)) (rw (fits-is s n e st) w) in
+  undo-wrong st len k w x es long last =
+      let f = seven (state_fits (plain p) (desk_layout p) st && leb k (length es)) (rw (fits-is s n e st, long) w) in
       undo-plain p ok st es k ∙ rw f
 
   module _ (st : List ℕ) (es : List Entry) (k len : ℕ) (long : length es ≡ len) (names places : List ℕ) (b : Bool) (fine : b ≡ points_fit names places k) where
@@ -237,21 +249,20 @@ module _ (p : List ℕ) (rows : ℕ) (two home row : List ℕ) (s : Prepared p r
         let there = sym (step-alike (plain p) lay (via row) (desk_layout p) (desk_row p) (alike s) st code node desk) ∙ done in
         on-plain p ok code node desk st ∙ ap (step_at_desk (own_desk p code node)) there ∙ named-own (simulated st' v) done
 
-    pub keep-done : (es : List Entry) (k : ℕ) → k < length es → (v : Verdict) (st' : List ℕ) (es' : List Entry) (k' : ℕ) →
-        keep_of (take (2 * n) two) lay (via row) st es k code node desk ≡ kept (simulated st' v) es' k' →
-        desk_keep_of p st es k code node desk ≡ kept (simulated st' (at_desk d v)) es' k'
+    pub keep-done : (len k : ℕ) → k < len → (v : Verdict) (at : ℕ) (x : Entry) (st' : List ℕ) (k' : ℕ) → Keeps (take (2 * n) two) lay (via row) st len k code node desk v at x st' k' →
+        DeskKeeps p st len k code node desk (at_desk d v) at x st' k'
     unfolding step_on
-    keep-done es k room v st' es' k' h =
-        let on : keep_of (plain p) lay (via row) st es k code node desk ≡ kept (simulated st' v) es' k' =
-        ap (λ (q : List ℕ). keep_of q lay (via row) st es k code node desk) (sym (plan-is s n e)) ∙ h in
+    keep-done len k room v at x st' k' h es l =
+        let on : keep_of (plain p) lay (via row) st es k code node desk ≡ kept (simulated st' v) (set es at x) k' =
+        ap (λ (q : List ℕ). keep_of q lay (via row) st es k code node desk) (sym (plan-is s n e)) ∙ h es l in
         let there = sym (keep-alike (plain p) lay (via row) (desk_layout p) (desk_row p) (alike s) st es k code node desk) ∙ on in
         let done : simulate (plain p) lay st (step_by (via row) code node desk) ≡ simulated st' v =
-        sym (keep-room (plain p) lay (via row) st es k code node desk room) ∙ ap (λ (a : Kept). a.step) on in
-        keep-plain p ok st es k code node desk ∙ ap (kept_at_desk (own_desk p code node)) there ∙ ap (λ (y : Simulated). kept y es' k') (named-own (simulated st' v) done)
+        sym (keep-room (plain p) lay (via row) st es k code node desk (rw l room)) ∙ ap (λ (a : Kept). a.step) on in
+        keep-plain p ok st es k code node desk ∙ ap (kept_at_desk (own_desk p code node)) there ∙ ap (λ (y : Simulated). kept y (set es at x) k') (named-own (simulated st' v) done)
 
-  pub undo-done : (st : List ℕ) (es : List Entry) (k : ℕ) (x : Undone) → undo_of (take (2 * n) two) lay (via row) st es k ≡ x → desk_undo_of p st es k ≡ x
-  undo-done st es k x h =
-      undo-plain p ok st es k ∙ sym (undo-alike (plain p) lay (via row) (desk_layout p) (desk_row p) (alike s) st es k) ∙ ap (λ (q : List ℕ). undo_of q lay (via row) st es k) (sym (plan-is s n e)) ∙ h
+  pub undo-done : (st : List ℕ) (len k : ℕ) (x : Entry) (r : ℕ) (st' : List ℕ) (k' : ℕ) → Undoes (take (2 * n) two) lay (via row) st len k x r st' k' → DeskUndoes p st len k x r st' k'
+  undo-done st len k x r st' k' h es l last =
+      undo-plain p ok st es k ∙ sym (undo-alike (plain p) lay (via row) (desk_layout p) (desk_row p) (alike s) st es k) ∙ ap (λ (q : List ℕ). undo_of q lay (via row) st es k) (sym (plan-is s n e)) ∙ h es l last
 
   module _ (st : List ℕ) (es : List Entry) (k : ℕ) (names places : List ℕ) (x : Returned) where
     pub point-undo-done : point_undo_of (take (2 * n) two) lay (via row) st es k names places ≡ x → desk_point_undo_of p st es k names places ≡ x

@@ -1,1 +1,2 @@
--- What the calls mean is the crate desks's.
+-- Letters: as in desks and keeping.
+pub mod Entries

@@ -10,15 +10,16 @@ ghost use Rattle.retention.specs.Record.{recorded};
 ghost use Rattle.site.specs.Verdict.{verdict_of};
 ghost use Rattle.site.specs.Step.{stepped};
 ghost use Rattle.job.specs.Simulation.{simulated};
-ghost use Rattle.journal.specs.Journal.{kept, undone};
 ghost use Rattle.points.specs.Points.{points};
 ghost use Rattle.rewind.specs.Return.{returned};
 ghost use Rattle.desks.specs.Desk.{plain, DeskAccepted};
-ghost use Rattle.desks.specs.Calls.{own_desk, at_desk, desk_step_of, desk_simulate_of, desk_keep_of, desk_undo_of, desk_point_undo_of, desk_point_back_of, desk_record_by_into, desk_record_into};
+ghost use Rattle.desks.specs.Calls.{own_desk, at_desk, desk_step_of, desk_simulate_of, desk_point_undo_of, desk_point_back_of, desk_record_by_into, desk_record_into};
+ghost use Rattle.desk_calls.specs.Entries.{DeskKeeps, DeskUndoes};
 
 use desk_layout::Desks;
 use fault::Fault;
 use journal::Entry;
+use keeping::Kept;
 use site::{PassedEvent, Refusal, Verdict};
 
 // The desk that decides an event of the plan. Of what is none it is 0, and no `Option`, since no verdict on such an event names a desk.
@@ -90,43 +91,51 @@ pub fn keep(
     node: u32,
     desk: u32,
     state: &mut [u8],
-    entries: &mut [Entry],
+    len: usize,
     count: &mut usize,
-) -> Verdict
-    ensures { desk_keep_of plan.now state.old entries.old count.old code node desk ≡ kept (simulated state.new (verdict_of result)) entries.new count.new }
+) -> Kept
+    ensures { DeskKeeps plan.now state.old len count.old code node desk (verdict_of result.verdict) result.at result.entry state.new count.new }
 {
     let mut desks = Desks::new();
     if let Err(fault) = desks.prepare(plan) {
-        return Verdict::Refused(Refusal::Invalid(u8::from(fault)));
+        return Kept {
+            verdict: Verdict::Refused(Refusal::Invalid(u8::from(fault))),
+            at: len,
+            entry: keeping::no_entry(),
+        };
     }
-    if !(desks.fits(state) & (*count < entries.len())) {
-        return Verdict::Refused(Refusal::Invalid(u8::from(Fault::BadBuffer)));
+    if !(desks.fits(state) & (*count < len)) {
+        return Kept {
+            verdict: Verdict::Refused(Refusal::Invalid(u8::from(Fault::BadBuffer))),
+            at: len,
+            entry: keeping::no_entry(),
+        };
     }
     let lay = desks.layout();
     let own = own_desk(plan, lay.plan, code, node);
     let was = keeping::is_repeat(lay, code, node, desk, state);
     let v = layout::simulate(lay, code, node, desk, state);
-    keeping::kept_by(v, was, code, node, desk, entries, count);
-    at_desk(own, v)
+    keeping::kept_by(at_desk(own, v), was, code, node, desk, len, count)
 }
 
 // The last entry taken back.
 pub fn undo(
     plan: &[u8],
     state: &mut [u8],
-    entries: &[Entry],
+    len: usize,
     count: &mut usize,
+    e: Entry,
 ) -> Result<(), Fault>
-    ensures { desk_undo_of plan.now state.old entries.now count.old ≡ undone (number_of result) state.new count.new }
+    ensures { DeskUndoes plan.now state.old len count.old e (number_of result) state.new count.new }
 {
     let mut desks = Desks::new();
     desks.prepare(plan)?;
-    if !(desks.fits(state) & (*count <= entries.len())) {
+    if !(desks.fits(state) & (*count <= len)) {
         return Err(Fault::BadBuffer);
     }
-    let Some(e) = journal::last_kept(entries, *count) else {
+    if *count == 0 {
         return Err(Fault::NothingToUndo);
-    };
+    }
     let lay = desks.layout();
     keeping::entry_fault(lay, e)?;
     keeping::take_back(lay, state, e);

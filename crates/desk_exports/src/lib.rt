@@ -51,7 +51,10 @@ pub extern "C" fn vulcedar_desk_keep(
 ) -> u32
     ensures { AsKept (desk_keep_of plan.now state.old entries.old count.old code node desk) result state.new entries.new count.new }
 {
-    results::of_verdict(desk_calls::keep(plan, code, node, desk, state, entries, count))
+    let len = entries.len();
+    let kept = desk_calls::keep(plan, code, node, desk, state, len, count);
+    journal::append(entries, kept.at, kept.entry);
+    results::of_verdict(kept.verdict)
 }
 
 #[unsafe(no_mangle)]
@@ -63,7 +66,9 @@ pub extern "C" fn vulcedar_desk_undo(
 ) -> u32
     ensures { AsUndone (desk_undo_of plan.now state.old entries.now count.old) result state.new count.new }
 {
-    results::of_done(desk_calls::undo(plan, state, entries, count))
+    let len = entries.len();
+    let e = journal::entry_at(entries, journal::last_place(*count));
+    results::of_done(desk_calls::undo(plan, state, len, count, e))
 }
 
 #[unsafe(no_mangle)]

@@ -9,6 +9,7 @@ use native.Mathlib.Omega.{arith}
 use borrow.Author.Tests.{eq-eqb, ne_eqb, eqb-true, eqb-false, ltb-true, ltb-false, lt-ltb}
 use lib.Dec.{eqb, ltb}
 use lib.ListN.{length, get_or, take, drop, length-take, get_or-eq_default}
+use lib.Seq.{set_out}
 use Rattle.lists.proofs.Logic.{cases, decided, and-join}
 use Rattle.plan.specs.Plan.{size}
 use Rattle.plan.proofs.Main.{fit-exact}
@@ -29,7 +30,7 @@ use Rattle.journal.specs.declared.Entry.{Entry}
 use Rattle.journal.specs.Journal.{target, is_set, entry_of, step_on, sited, keep_fits, kept_if, kept, keep_of}
 use Rattle.journal.proofs.UndoLaws.{step_ok, keep-passed}
 use Rattle.journal.proofs.ChangeLaws.{event-unset}
-use Rattle.keeping.specs.Keeping.{KeptBy}
+use Rattle.keeping.specs.Keeping.{Keeps, KeptBy}
 
 -- THE BIT OF A STEP
 no-bit-of : (code : ℕ) → has_bit 0 code ≡ false
@@ -82,11 +83,11 @@ module _ (p : List ℕ) (lay : Layout) (row : ℕ → ℕ) (st : List ℕ) (laid
   pub passed : verdict_number v ≡ 0 → Valid p (state_fits p lay st) (sited p lay row site) code node
   passed zero = step_ok p lay row st code node site (on-number zero)
 
-  -- over entries of which k are kept; `was` says of a message whether it is a repeat
-  module _ (es : List Entry) (k : ℕ) (room : k < length es) (was : Bool) (no-message : site ≡ 255 → was ≡ false) (repeated : (site ≡ 255 → ⊥) → was ≡ is_set p lay row st code node site) where
-    fits : keep_fits p lay row st es k ≡ 0
+  -- over len entries of which k are kept; `was` says of a message whether it is a repeat
+  module _ (len k : ℕ) (room : k < len) (was : Bool) (no-message : site ≡ 255 → was ≡ false) (repeated : (site ≡ 255 → ⊥) → was ≡ is_set p lay row st code node site) where
+    fits : (es : List Entry) → length es ≡ len → keep_fits p lay row st es k ≡ 0
     unfolding keep_fits state_fits
-    fits = (fit-exact p _).none.1 (laid.plan, and-join _ _ (eq-eqb (length st) (lay.rows * size p) laid.long) (lt-ltb k (length es) room))
+    fits es long = (fit-exact p _).none.1 (laid.plan, and-join _ _ (eq-eqb (length st) (lay.rows * size p) laid.long) (lt-ltb k (length es) (rw long room)))
 
     -- an event that passed was not set
     was-set : verdict_number v ≡ 0 → is_set p lay row st code node site ≡ was
@@ -96,12 +97,13 @@ module _ (p : List ℕ) (lay : Layout) (row : ℕ → ℕ) (st : List ℕ) (laid
         ap (is_set p lay row st code node) i ∙ event-unset p lay row st code node y ∙ sym (no-message i))
         (λ e. sym (repeated (eqb-false site 255 e)))
 
-    pub keeps-by : (es' : List Entry) (k' : ℕ) → KeptBy v was code node site es k es' k' → keep_of p lay row st es k code node site ≡ kept (simulated st' v) es' k'
+    pub keeps-by : (told : Verdict) (at : ℕ) (e : Entry) (k' : ℕ) → KeptBy v was code node site len k told at e k' → Keeps p lay row st len k code node site told at e st' k'
     unfolding keep_of kept_if entry_of
-    keeps-by es' k' by = cases (decided (eqb (verdict_number v) 0))
+    keeps-by told at e k' by es long = cases (decided (eqb (verdict_number v) 0))
         (λ z. let y = eqb-true _ 0 z in let s = by.stored y in
-        keep-passed p lay row st es k code node site room (on-number y) ∙ rw (on, was-set y, s.0, s.1, add-one))
-        (λ z. let s = by.left (eqb-false _ 0 z) in rw (fits, on, z, s.0, s.1))
+        keep-passed p lay row st es k code node site (rw long room) (on-number y) ∙ rw (on, was-set y, s.0, s.1, s.2, by.same, add-one))
+        (λ z. let s = by.left (eqb-false _ 0 z) in
+        rw (fits es long, on, z, s.0, s.1, by.same) (ap (λ (l : List Entry). kept (simulated st' v) l k) (sym (set_out es len e (omega arith)))))
 
 -- THE NUMBERS OF AN ENTRY are bytes, where the table of rows has no more entries than there are bytes
 site-byte : (p home row : List ℕ) (rows site : ℕ) → length row ≤ 256 → rows ≤ 160 → sited p (layout_by rows home) (via row) site ≡ true → site < 256

@@ -1,5 +1,5 @@
 -- The last entry taken back: where its bit is, and each answer. Assumes nothing.
-use Rattle.std.proofs.Common.{◌≡◌, sym, ◌∙◌, List, ℕ, ◌+◌, ◌*◌, ◌-◌, ◌≤◌, ◌<◌, Some, None, slice_get, arith}
+use Rattle.std.proofs.Common.{◌≡◌, sym, ap, ◌∙◌, List, ℕ, ◌+◌, ◌*◌, ◌-◌, ◌≤◌, ◌<◌, Some, None, slice_get, arith}
 use Rattle.std.proofs.lemmas.Option.{none-some, slice_get-get_or, get_or_from_slice_get}
 use borrow.Author.Tests.{eq-eqb, ne_eqb, eqb-true, eqb-false, ltb-true, le-leb}
 use lib.Dec.{eqb}
@@ -18,6 +18,7 @@ use Rattle.layout.specs.Layout.{Laid}
 use Rattle.layout.proofs.StepLaws.{row-spot}
 use Rattle.journal.specs.declared.Entry.{Entry}
 use Rattle.journal.specs.Journal.{no_entry, target, sited, entry_fault, undo_fits, undo_number, taken_back, undone, undo_of}
+use Rattle.keeping.specs.Keeping.{Undoes}
 
 -- where there is no last entry, none is kept
 none-left : (es : List Entry) (k : ℕ) → k ≤ length es → (0 < k → None ≡ slice_get es (k - 1)) → k ≡ 0
@@ -79,3 +80,18 @@ module _ (p : List ℕ) (lay : Layout) (row : ℕ → ℕ) (st : List ℕ) (laid
       pub undo-done : entry_fault p lay row e ≡ 0 → (st' : List ℕ) → st' ≡ taken_back p lay row st e → undo_of p lay row st es k ≡ undone 0 st' (k - 1)
       unfolding undo_of
       undo-done fine st' is = rw (number_is, fine, is_last, is)
+
+  -- THE LAST of len entries, whatever the others are
+  module _ (len k : ℕ) (within : k ≤ len) where
+    pub undoes-none : k ≡ 0 → Undoes p lay row st len k e 16 st k
+    undoes-none z es long last = undo-none es k (rw long within) (λ l. absurd (omega arith))
+
+    module _ (some : k ≡ 0 → ⊥) where
+      there : (es : List Entry) → length es ≡ len → get_or es (k - 1) no_entry ≡ e → 0 < k → Some e ≡ slice_get es (k - 1)
+      there es long last l = sym (slice_get-get_or es (k - 1) no_entry (omega arith) ∙ ap Some last)
+
+      pub undoes-bad : (n : ℕ) → n ≡ entry_fault p lay row e → (n ≡ 0 → ⊥) → Undoes p lay row st len k e n st k
+      undoes-bad n is bad es long last = undo-bad es k (rw long within) (λ z. absurd (some z)) (there es long last) n is bad
+
+      pub undoes-done : entry_fault p lay row e ≡ 0 → (st' : List ℕ) → st' ≡ taken_back p lay row st e → Undoes p lay row st len k e 0 st' (k - 1)
+      undoes-done fine st' is es long last = undo-done es k (rw long within) (λ z. absurd (some z)) (there es long last) fine st' is

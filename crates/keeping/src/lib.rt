@@ -1,21 +1,30 @@
 // A step kept in the journal, and the last one taken back, as code: what they are made of for any layout of rows (`is_repeat`, `kept_by`, `entry_fault`,
-// `take_back`, whose callers have checked the plan and the lengths), and both on a plan of two bytes a node (`keep`, `undo`, which check them).
+// `take_back`, whose callers have checked the plan and the lengths), and both on a plan of two bytes a node (`keep`, `undo`, which check them). The
+// entries themselves are the caller's: a function here answers where an entry goes, or is handed the last one (specs/Keeping.antt).
 // A step is three numbers, code, node and site, and no struct: so C programs hand it in (`vulcedar_keep`).
 #![tactic(auto)]
 
 ghost use Rattle.std.specs.Prelude.{◌≡◌, false, cond, ℕ, ◌+◌, ◌*◌, ◌<◌, ◌≤◌, length, List};
 ghost use Rattle.fault.specs.Number.{number_of};
 ghost use Rattle.plan.specs.Plan.{size};
+ghost use Rattle.event.specs.Site.{own};
 ghost use Rattle.site.specs.Verdict.{verdict_of, verdict_number};
-ghost use Rattle.job.specs.Simulation.{simulated};
 ghost use Rattle.layout.specs.Layout.{via, layout_by, Laid};
-ghost use Rattle.journal.specs.Journal.{no_entry, target, is_set, sited, entry_fault, taken_back, kept, undone};
-ghost use Rattle.keeping.specs.Keeping.{KeptBy, keep_own, undo_own};
+ghost use Rattle.journal.specs.Journal.{no_entry, target, is_set, sited, entry_fault, taken_back};
+ghost use Rattle.keeping.specs.Keeping.{Keeps, KeptBy, Undoes};
 
 use fault::Fault;
 use journal::Entry;
 use layout::Layout;
 use site::{Refusal, Report, Verdict};
+
+// A step's answer, and where its entry goes: past the end of the entries where it was refused.
+#[derive(Drop)]
+pub struct Kept {
+    pub verdict: Verdict,
+    pub at: usize,
+    pub entry: Entry,
+}
 
 // An entry of zeros.
 pub fn no_entry() -> Entry
@@ -75,19 +84,28 @@ pub fn kept_by(
     code: u32,
     node: u32,
     site: u32,
-    entries: &mut [Entry],
+    len: usize,
     count: &mut usize,
-)
+) -> Kept
     requires code_bound { verdict_number (verdict_of v) ≡ 0 → (code < 256) × (node < 256) × (site < 256) }
-    requires count_lt_len { count.old < length entries.old }
-    ensures { KeptBy (verdict_of v) was code node site entries.old count.old entries.new count.new }
+    requires count_lt_len { count.old < len }
+    ensures { KeptBy (verdict_of v) was code node site len count.old (verdict_of result.verdict) result.at result.entry count.new }
 {
     let report = Report::from(v);
     if report.number != 0 {
-        return;
+        return Kept {
+            verdict: v,
+            at: len,
+            entry: no_entry(),
+        };
     }
-    journal::append(entries, *count, entry_of(code, node, site, was));
-    *count += 1;
+    let at = *count;
+    *count = at + 1;
+    Kept {
+        verdict: v,
+        at,
+        entry: entry_of(code, node, site, was),
+    }
 }
 
 // A step on a plan of two bytes a node, and the entry that keeps it.
@@ -97,21 +115,24 @@ pub fn keep(
     node: u32,
     site: u32,
     state: &mut [u8],
-    entries: &mut [Entry],
+    len: usize,
     count: &mut usize,
-) -> Verdict
-    ensures { keep_own plan.now state.old entries.old count.old code node site ≡ kept (simulated state.new (verdict_of result)) entries.new count.new }
+) -> Kept
+    ensures { Keeps plan.now (own plan.now) (λ q. q) state.old len count.old code node site (verdict_of result.verdict) result.at result.entry state.new count.new }
 {
     let n = plan::node_count(plan);
-    let fits = simulation::is_square(n, state.len()) & (*count < entries.len());
+    let fits = simulation::is_square(n, state.len()) & (*count < len);
     if let Err(fault) = checker::fit(plan, fits) {
-        return Verdict::Refused(Refusal::Invalid(u8::from(fault)));
+        return Kept {
+            verdict: Verdict::Refused(Refusal::Invalid(u8::from(fault))),
+            at: len,
+            entry: no_entry(),
+        };
     }
     let lay = Layout::own(plan);
     let was = is_repeat(lay, code, node, site, state);
     let v = layout::simulate(lay, code, node, site, state);
-    kept_by(v, was, code, node, site, entries, count);
-    v
+    kept_by(v, was, code, node, site, len, count)
 }
 
 // The row in which a step set its bit.
@@ -161,17 +182,18 @@ pub fn take_back(lay: Layout, state: &mut [u8], e: Entry)
 pub fn undo(
     plan: &[u8],
     state: &mut [u8],
-    entries: &[Entry],
+    len: usize,
     count: &mut usize,
+    e: Entry,
 ) -> Result<(), Fault>
-    ensures { undo_own plan.now state.old entries.now count.old ≡ undone (number_of result) state.new count.new }
+    ensures { Undoes plan.now (own plan.now) (λ q. q) state.old len count.old e (number_of result) state.new count.new }
 {
     let n = plan::node_count(plan);
-    let fits = simulation::is_square(n, state.len()) & (*count <= entries.len());
+    let fits = simulation::is_square(n, state.len()) & (*count <= len);
     checker::fit(plan, fits)?;
-    let Some(e) = journal::last_kept(entries, *count) else {
+    if *count == 0 {
         return Err(Fault::NothingToUndo);
-    };
+    }
     let lay = Layout::own(plan);
     entry_fault(lay, e)?;
     take_back(lay, state, e);

@@ -40,7 +40,10 @@ pub extern "C" fn vulcedar_keep(
 ) -> u32
     ensures { AsKept (keep_own plan.now state.old entries.old count.old code node site) result state.new entries.new count.new }
 {
-    results::of_verdict(keeping::keep(plan, code, node, site, state, entries, count))
+    let len = entries.len();
+    let a = keeping::keep(plan, code, node, site, state, len, count);
+    journal::append(entries, a.at, a.entry);
+    results::of_verdict(a.verdict)
 }
 
 #[unsafe(no_mangle)]
@@ -52,7 +55,9 @@ pub extern "C" fn vulcedar_undo(
 ) -> u32
     ensures { AsUndone (undo_own plan.now state.old entries.now count.old) result state.new count.new }
 {
-    results::of_done(keeping::undo(plan, state, entries, count))
+    let len = entries.len();
+    let e = journal::entry_at(entries, journal::last_place(*count));
+    results::of_done(keeping::undo(plan, state, len, count, e))
 }
 
 #[unsafe(no_mangle)]
