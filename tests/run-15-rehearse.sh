@@ -112,6 +112,27 @@ for rehearse in "$command" "$checked"; do
   grep -q '^rehearse: standard input: ' "$work/err"
 done
 
+# the proved programs pass over input and output that fails: a read that fails is the end of the input, a write that fails is left, and the exit status
+# is 0; of C's functions that read, write, seek or tell an error they reach `read` and `write` alone (docs/THEOREM.md, what is assumed)
+cases=crates/cases/out/cases
+(cd crates/cases && rt run < /dev/null > /dev/null 2>&1)
+[ -x "$cases" ]
+for program in "$proved" "$cases"; do
+  [ "$program" = "$proved" ] && nothing=0f || nothing=
+  for input in closed_input directory; do
+    exits 0 "$input" "$program"
+    [ ! -s "$work/err" ] && [ "$(cat "$work/out")" = "$nothing" ] || fail "$program, $input: $(cat "$work/out" "$work/err")"
+  done
+  for input in examples/early-end.txt crates/cases/stdin; do
+    exits 0 onto "$program" "$input" /dev/full
+    [ ! -s "$work/err" ] || fail "$program at a full device: $(cat "$work/err")"
+    exits 0 closed_output "$program" "$input"
+    [ ! -s "$work/err" ] || fail "$program without an output: $(cat "$work/err")"
+  done
+  reached=$(nm -D -u "$program" | awk '{ sub(/@.*/, "", $2); print $2 }' | grep -xE '_*(read|write|lseek|errno_location|xpg_strerror_r|strerror|perror|pread|pwrite|readv|writev|open|close|fstat|ioctl|poll)' | sed 's/^_*//' | sort -u | tr '\n' ' ')
+  [ "$reached" = 'read write ' ] || fail "$program reaches others of C's functions: $reached"
+done
+
 # at a terminal it says what it waits for
 if command -v script > /dev/null; then
   exits 1 timeout 60 script -qec "$command 2> $work/said" /dev/null < /dev/null
