@@ -69,12 +69,7 @@ pub(crate) fn answer(line: &[u8], res: u32) {
     words(line, 17);
     put(b' ');
     io::print_decimal(STDOUT, u64::from(number));
-    beside(
-        plan::byte_at(line, 0),
-        number,
-        res / 256 % 256,
-        res / 65536,
-    );
+    beside(plan::byte_at(line, 0), number, res / 256 % 256, res / 65536);
 }
 
 // Lent bytes: as text, the first line, or in digits.
