@@ -30,7 +30,7 @@ use Rattle.layout.proofs.StepLaws.{simulate-event, simulate-message, happen-refu
 use Rattle.simulation.specs.Run.{record_number, record_by_on}
 use Rattle.simulation.proofs.RecordLaws.{record-refused, record-done}
 use Rattle.journal.specs.declared.Entry.{Entry}
-use Rattle.journal.specs.Journal.{Kept, kept, step_on, keep_fits, keep_of, undo_fits, undo_number, undo_of}
+use Rattle.journal.specs.Journal.{Kept, kept, Undone, undone, step_on, keep_fits, keep_of, undo_fits, undo_number, undo_of}
 use Rattle.journal.proofs.UndoLaws.{keep-room}
 use Rattle.keeping.specs.Keeping.{Keeps, KeptBy, Undoes}
 use Rattle.points.specs.Points.{points, points_fit}
@@ -249,20 +249,30 @@ module _ (p : List ℕ) (rows : ℕ) (two home row : List ℕ) (s : Prepared p r
         let there = sym (step-alike (plain p) lay (via row) (desk_layout p) (desk_row p) (alike s) st code node desk) ∙ done in
         on-plain p ok code node desk st ∙ ap (step_at_desk (own_desk p code node)) there ∙ named-own (simulated st' v) done
 
-    pub keep-done : (len k : ℕ) → k < len → (v : Verdict) (at : ℕ) (x : Entry) (st' : List ℕ) (k' : ℕ) → Keeps (take (2 * n) two) lay (via row) st len k code node desk v at x st' k' →
-        DeskKeeps p st len k code node desk (at_desk d v) at x st' k'
+    pub keep-done : (es : List Entry) (k : ℕ) → k < length es → (v : Verdict) (st' : List ℕ) (es' : List Entry) (k' : ℕ) →
+        keep_of (take (2 * n) two) lay (via row) st es k code node desk ≡ kept (simulated st' v) es' k' →
+        desk_keep_of p st es k code node desk ≡ kept (simulated st' (at_desk d v)) es' k'
     unfolding step_on
-    keep-done len k room v at x st' k' h es l =
-        let on : keep_of (plain p) lay (via row) st es k code node desk ≡ kept (simulated st' v) (set es at x) k' =
-        ap (λ (q : List ℕ). keep_of q lay (via row) st es k code node desk) (sym (plan-is s n e)) ∙ h es l in
+    keep-done es k room v st' es' k' h =
+        let on : keep_of (plain p) lay (via row) st es k code node desk ≡ kept (simulated st' v) es' k' =
+        ap (λ (q : List ℕ). keep_of q lay (via row) st es k code node desk) (sym (plan-is s n e)) ∙ h in
         let there = sym (keep-alike (plain p) lay (via row) (desk_layout p) (desk_row p) (alike s) st es k code node desk) ∙ on in
         let done : simulate (plain p) lay st (step_by (via row) code node desk) ≡ simulated st' v =
-        sym (keep-room (plain p) lay (via row) st es k code node desk (rw l room)) ∙ ap (λ (a : Kept). a.step) on in
-        keep-plain p ok st es k code node desk ∙ ap (kept_at_desk (own_desk p code node)) there ∙ ap (λ (y : Simulated). kept y (set es at x) k') (named-own (simulated st' v) done)
+        sym (keep-room (plain p) lay (via row) st es k code node desk room) ∙ ap (λ (a : Kept). a.step) on in
+        keep-plain p ok st es k code node desk ∙ ap (kept_at_desk (own_desk p code node)) there ∙ ap (λ (y : Simulated). kept y es' k') (named-own (simulated st' v) done)
 
-  pub undo-done : (st : List ℕ) (len k : ℕ) (x : Entry) (r : ℕ) (st' : List ℕ) (k' : ℕ) → Undoes (take (2 * n) two) lay (via row) st len k x r st' k' → DeskUndoes p st len k x r st' k'
-  undo-done st len k x r st' k' h es l last =
-      undo-plain p ok st es k ∙ sym (undo-alike (plain p) lay (via row) (desk_layout p) (desk_row p) (alike s) st es k) ∙ ap (λ (q : List ℕ). undo_of q lay (via row) st es k) (sym (plan-is s n e)) ∙ h es l last
+    -- the same of every list of so many entries
+    pub desk-keeps : (len k : ℕ) → k < len → (v : Verdict) (at : ℕ) (x : Entry) (st' : List ℕ) (k' : ℕ) → Keeps (take (2 * n) two) lay (via row) st len k code node desk v at x st' k' →
+        DeskKeeps p st len k code node desk (at_desk d v) at x st' k'
+    desk-keeps len k room v at x st' k' h es l = keep-done es k (rw l room) v st' (set es at x) k' (h es l)
+
+  pub undo-done : (st : List ℕ) (es : List Entry) (k : ℕ) (x : Undone) → undo_of (take (2 * n) two) lay (via row) st es k ≡ x → desk_undo_of p st es k ≡ x
+  undo-done st es k x h =
+      undo-plain p ok st es k ∙ sym (undo-alike (plain p) lay (via row) (desk_layout p) (desk_row p) (alike s) st es k) ∙ ap (λ (q : List ℕ). undo_of q lay (via row) st es k) (sym (plan-is s n e)) ∙ h
+
+  -- the same of every list of so many entries
+  pub desk-undoes : (st : List ℕ) (len k : ℕ) (x : Entry) (r : ℕ) (st' : List ℕ) (k' : ℕ) → Undoes (take (2 * n) two) lay (via row) st len k x r st' k' → DeskUndoes p st len k x r st' k'
+  desk-undoes st len k x r st' k' h es l last = undo-done st es k (undone r st' k') (h es l last)
 
   module _ (st : List ℕ) (es : List Entry) (k : ℕ) (names places : List ℕ) (x : Returned) where
     pub point-undo-done : point_undo_of (take (2 * n) two) lay (via row) st es k names places ≡ x → desk_point_undo_of p st es k names places ≡ x

@@ -3,7 +3,7 @@ use Rattle.std.proofs.Common.{sym, ◌∙◌}
 use Rattle.fault.proofs.Laws.{fault-some}
 use Rattle.keeping.proofs.KeepLaws.{keeps-by, entry-bytes}
 use Rattle.desk_layout.proofs.LayoutLaws.{desks-few, plan-is, prepared-laid, repeat-ready, row-short}
-use Rattle.desk_calls.proofs.CallLaws.{keep-refused, same_number, kept-as, keep-tested, keep-wrong, keep-done}
+use Rattle.desk_calls.proofs.CallLaws.{keep-refused, same_number, kept-as, keep-tested, keep-wrong, desk-keeps}
 use Rattle.desk_calls.proofs.keep.Goals as goal
 
 pub returns-in-Err : goal.returns-in-Err
@@ -36,6 +36,6 @@ kept_by-requires c = let t = keep-tested _ _ _ _ _ c.in_default.ensures.prepared
 pub returns : goal.returns
 returns c = let t = keep-tested _ _ _ _ _ c.in_default.ensures.prepared _ c.in_default.ensures.counted c.args.state.now c.args.count.now _ (rw c.fits.ensures at c.if-not-fits-count.false) in
     let by = c.kept_by.ensures in
-    rw (by.same, c.at_desk.ensures) (keep-done _ _ _ _ _ c.in_default.ensures.prepared _ c.in_default.ensures.counted _ t.0 _ _ _ _ c.own_desk-own.ensures _ _ t.1 _ _ _ _ _
+    rw (by.same, c.at_desk.ensures) (desk-keeps _ _ _ _ _ c.in_default.ensures.prepared _ c.in_default.ensures.counted _ t.0 _ _ _ _ c.own_desk-own.ensures _ _ t.1 _ _ _ _ _
     (keeps-by _ _ _ _ (prepared-laid c.in_default.ensures.prepared _ c.in_default.ensures.counted _ t.0) _ _ _ _ _ (rw (c.layout-lay.ensures.0, c.layout-lay.ensures.1, c.layout-lay.ensures.2, c.layout-lay.ensures.3) at c.simulate-v.ensures) _ _ t.1 _ c.is_repeat-was.ensures.value
     (λ h. (rw (c.layout-lay.ensures.0, c.layout-lay.ensures.2, c.layout-lay.ensures.3) at (c.is_repeat-was.ensures.value_2 h c.prepare.new.self.home))) _ _ _ _ (kept-as _ _ _ c.at_desk.ensures _ _ _ _ _ _ _ _ _ _ by)))

@@ -3,7 +3,7 @@ use Rattle.std.proofs.Common.{sym}
 use Rattle.fault.proofs.Laws.{fault-some, handed_on}
 use Rattle.keeping.proofs.UndoLaws.{undoes-none, undoes-bad, undoes-done}
 use Rattle.desk_layout.proofs.LayoutLaws.{desks-few, prepared-laid}
-use Rattle.desk_calls.proofs.CallLaws.{undo-refused, undo-wrong, undo-tested, undo-done}
+use Rattle.desk_calls.proofs.CallLaws.{undo-refused, undo-wrong, undo-tested, desk-undoes}
 use Rattle.desk_calls.proofs.undo.Goals as goal
 
 pub returns-in_err-prepare : goal.returns-in_err-prepare
@@ -17,7 +17,7 @@ returns-then-not-fits-count c = undo-wrong _ _ _ _ _ c.in_ok-prepare.ensures.pre
 
 pub returns-then-count-eq0 : goal.returns-then-count-eq0
 returns-then-count-eq0 c = let t = undo-tested _ _ _ _ _ c.in_ok-prepare.ensures.prepared _ c.in_ok-prepare.ensures.counted _ _ _ (rw c.fits.ensures at c.if-not-fits-count.false) in
-    undo-done _ _ _ _ _ c.in_ok-prepare.ensures.prepared _ c.in_ok-prepare.ensures.counted _ _ _ _ _ _ _ (undoes-none _ _ _ _ (prepared-laid c.in_ok-prepare.ensures.prepared _ c.in_ok-prepare.ensures.counted _ t.0) _ _ _ t.1 c.if-count-eq0.true)
+    desk-undoes _ _ _ _ _ c.in_ok-prepare.ensures.prepared _ c.in_ok-prepare.ensures.counted _ _ _ _ _ _ _ (undoes-none _ _ _ _ (prepared-laid c.in_ok-prepare.ensures.prepared _ c.in_ok-prepare.ensures.counted _ t.0) _ _ _ t.1 c.if-count-eq0.true)
 
 pub layout-lay-requires : goal.layout-lay-requires
 layout-lay-requires c = (desks-few c.in_ok-prepare.ensures.prepared _ c.in_ok-prepare.ensures.counted).0
@@ -28,7 +28,7 @@ entry_fault-requires c = let t = undo-tested _ _ _ _ _ c.in_ok-prepare.ensures.p
 pub returns-in_err-entry_fault : goal.returns-in_err-entry_fault
 returns-in_err-entry_fault c = let t = undo-tested _ _ _ _ _ c.in_ok-prepare.ensures.prepared _ c.in_ok-prepare.ensures.counted _ _ _ (rw c.fits.ensures at c.if-not-fits-count.false) in
     rw (handed_on _ _ c.from_residual-in_err-entry_fault.ensures.1)
-    (undo-done _ _ _ _ _ c.in_ok-prepare.ensures.prepared _ c.in_ok-prepare.ensures.counted _ _ _ _ _ _ _ (undoes-bad _ _ _ _ (prepared-laid c.in_ok-prepare.ensures.prepared _ c.in_ok-prepare.ensures.counted _ t.0) _ _ _ t.1 c.if-count-eq0.false _ (rw (c.layout-lay.ensures.0, c.layout-lay.ensures.2, c.layout-lay.ensures.3) at (c.in_err-entry_fault.ensures c.prepare.new.self.home)) (fault-some _)))
+    (desk-undoes _ _ _ _ _ c.in_ok-prepare.ensures.prepared _ c.in_ok-prepare.ensures.counted _ _ _ _ _ _ _ (undoes-bad _ _ _ _ (prepared-laid c.in_ok-prepare.ensures.prepared _ c.in_ok-prepare.ensures.counted _ t.0) _ _ _ t.1 c.if-count-eq0.false _ (rw (c.layout-lay.ensures.0, c.layout-lay.ensures.2, c.layout-lay.ensures.3) at (c.in_err-entry_fault.ensures c.prepare.new.self.home)) (fault-some _)))
 
 pub take_back-requires : goal.take_back-requires
 take_back-requires c = let t = undo-tested _ _ _ _ _ c.in_ok-prepare.ensures.prepared _ c.in_ok-prepare.ensures.counted _ _ _ (rw c.fits.ensures at c.if-not-fits-count.false) in
@@ -36,4 +36,4 @@ take_back-requires c = let t = undo-tested _ _ _ _ _ c.in_ok-prepare.ensures.pre
 
 pub returns : goal.returns
 returns c = let t = undo-tested _ _ _ _ _ c.in_ok-prepare.ensures.prepared _ c.in_ok-prepare.ensures.counted _ _ _ (rw c.fits.ensures at c.if-not-fits-count.false) in
-    undo-done _ _ _ _ _ c.in_ok-prepare.ensures.prepared _ c.in_ok-prepare.ensures.counted _ _ _ _ _ _ _ (undoes-done _ _ _ _ (prepared-laid c.in_ok-prepare.ensures.prepared _ c.in_ok-prepare.ensures.counted _ t.0) _ _ _ t.1 c.if-count-eq0.false (rw (c.layout-lay.ensures.0, c.layout-lay.ensures.2, c.layout-lay.ensures.3) at (sym (c.in_ok-entry_fault.ensures c.prepare.new.self.home))) _ (rw (c.layout-lay.ensures.0, c.layout-lay.ensures.1, c.layout-lay.ensures.2, c.layout-lay.ensures.3) at c.take_back.ensures))
+    desk-undoes _ _ _ _ _ c.in_ok-prepare.ensures.prepared _ c.in_ok-prepare.ensures.counted _ _ _ _ _ _ _ (undoes-done _ _ _ _ (prepared-laid c.in_ok-prepare.ensures.prepared _ c.in_ok-prepare.ensures.counted _ t.0) _ _ _ t.1 c.if-count-eq0.false (rw (c.layout-lay.ensures.0, c.layout-lay.ensures.2, c.layout-lay.ensures.3) at (sym (c.in_ok-entry_fault.ensures c.prepare.new.self.home))) _ (rw (c.layout-lay.ensures.0, c.layout-lay.ensures.1, c.layout-lay.ensures.2, c.layout-lay.ensures.3) at c.take_back.ensures))
